@@ -1,0 +1,6 @@
+pub mod Tests
+pub mod Places
+pub mod Swap
+pub mod Cells
+pub mod Walks
+pub mod Order

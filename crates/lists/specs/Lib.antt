@@ -1,0 +1,5 @@
+pub mod Places
+pub mod Tests
+pub mod Order
+pub mod Walks
+pub mod Cells

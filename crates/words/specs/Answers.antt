@@ -1,0 +1,37 @@
+-- Document 01, "Driver calls, log and trace": each driver call takes one lent answer pair (code, value).
+use mathlib.Core.Bool.{Bool, true, false, cond}
+use mathlib.Core.List.{List}
+use Prim.Native.Nat.{ℕ, _+_, _*_}
+use lib.Dec.{ltb, eqb}
+use lib.ListN.{length, getD}
+use Rattle.words.specs.declared.Answer.{Answer}
+use Rattle.words.specs.declared.Answer.the-variants.{Done, Failed, Missing}
+
+-- Code 0 is success. A value beside a code above 0 is ignored.
+unfoldable pub ofPair : ℕ → ℕ → Answer
+ofPair code value = cond (eqb code 0) (Done value) (Failed code)
+
+-- The answer to the driver call that comes after `made` others. An odd last number is no pair.
+unfoldable pub lent : List ℕ → ℕ → Answer
+lent xs made = cond (ltb (2 * made + 1) (length xs)) (ofPair (getD xs (2 * made) 0) (getD xs (2 * made + 1) 0)) Missing
+
+-- The code of a record. 17: the wanted call has code 0.
+abbrev pub codeOf : Answer → ℕ
+codeOf (Done v) = 0
+codeOf (Failed c) = c
+codeOf Missing = 0
+
+-- The value is the base, the handle, or 1 for complete; a failed reserve or create has first 0, and so has a wanted one.
+abbrev pub valueOf : Answer → ℕ
+valueOf (Done v) = v
+valueOf (Failed c) = 0
+valueOf Missing = 0
+
+abbrev pub failed : Answer → Bool
+failed (Done v) = false
+failed (Failed c) = true
+failed Missing = false
+
+-- asked is complete only for pair (0, 1)
+abbrev pub complete : Answer → Bool
+complete x = eqb (valueOf x) 1
