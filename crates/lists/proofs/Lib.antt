@@ -4,3 +4,4 @@ pub mod Swap
 pub mod Cells
 pub mod Walks
 pub mod Order
+pub mod Members

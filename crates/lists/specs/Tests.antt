@@ -1,4 +1,6 @@
 -- Tests of a list's elements, and what holds of each.
+use mathlib.Core.Path.{_≡_}
+use mathlib.Core.Logic.{_⊎_}
 use mathlib.Core.Bool.{Bool, true, false, cond, _&&_, _||_, not}
 use mathlib.Core.List.{List, [], _∷_}
 use mathlib.Core.Option.{Option, some, none}
@@ -35,6 +37,11 @@ module _ {ℓ} {A : Type ℓ} where
   abbrev pub pairwise : (A → A → Bool) → List A → Bool
   pairwise p [] = true
   pairwise p (x ∷ l) = every (p x) l && pairwise p l
+
+-- `x` is one of the elements
+abbrev pub Member : {A : Type 0} → A → List A → Type 0
+Member x [] = ⊥
+Member x (y ∷ l) = (x ≡ y) ⊎ Member x l
 
 -- no number twice
 abbrev pub distinct : List ℕ → Bool

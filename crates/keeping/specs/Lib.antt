@@ -1,0 +1,4 @@
+pub mod Cover
+pub mod Sound
+pub mod Counts
+pub mod Holds
