@@ -1,2 +1,3 @@
 pub mod Holds
 pub mod Cover
+pub mod Holes
