@@ -2,118 +2,106 @@
 -- it was lent), what it answers, and every table and the counter after it.
 use mathlib.Core.Path.{_≡_, refl}
 use mathlib.Core.List.{List, [], _∷_}
-use Prim.Native.Nat.{ℕ}
-use Rattle.tables.specs.Values.{Tables, address, opened, closedPool, region, buffer, hole, zombie, page}
+use Rattle.tables.specs.Values.{address, opened, closedPool, region, buffer, hole, zombie, page}
 use Rattle.tables.specs.Outcomes.{answers}
 use Rattle.words.specs.Words.{reserve, create, map, access, unmap, release, recorded, asked}
-use Rattle.tables.specs.Session.{Row, opens, mallocs, frees, row, answerBy, played}
-use Rattle.words.specs.declared.Address.{Address}
-use Rattle.tables.specs.declared.FreeRegion.{FreeRegion}
-use Rattle.tables.specs.declared.LiveBuffer.{LiveBuffer}
-use Rattle.tables.specs.declared.Hole.{Hole}
-use Rattle.tables.specs.declared.Zombie.{Zombie}
-use Rattle.tables.specs.declared.Page.{Page}
+use Rattle.tables.specs.Session.{Row, opens, mallocs, frees, row, answerBy, played, holding}
 
--- page size 4, va_size 40
-abbrev after : ℕ → List FreeRegion → List LiveBuffer → List Hole → List Zombie → List Page → List Address → Tables
-after n free live holes zombies pages roots =
-    record { page = 4; va = 40; counter = n; free = free; live = live; holes = holes; zombies = zombies; pages = pages; roots = roots }
-
-abbrev session : List Row
-session =
+abbrev aToN : List Row
+aToN =
     -- open
     row (opens 4 40 0)
     (reserve 1000 40 0 ∷ [])
     (answers 0 1000 4) opened
-    (after 0 [] [] (hole 1000 40 ∷ []) []
+    (holding 4 40 0 [] [] (hole 1000 40 ∷ []) []
     [] (address 1000 ∷ [])) ∷
     -- A
     row (mallocs 8 1)
     (create 71 4 0 ∷ map 1000 71 0 ∷ create 72 4 0 ∷ map 1004 72 0 ∷ access 1000 8 0 ∷ recorded 0 1 0 ∷ [])
     (answers 0 1000 8) opened
-    (after 1 [] (buffer 1000 8 1 ∷ []) (hole 1008 32 ∷ []) []
+    (holding 4 40 1 [] (buffer 1000 8 1 ∷ []) (hole 1008 32 ∷ []) []
     (page 1000 71 ∷ page 1004 72 ∷ []) (address 1000 ∷ [])) ∷
     -- B
     row (mallocs 4 2)
     (create 73 4 0 ∷ map 1008 73 0 ∷ access 1008 4 0 ∷ recorded 1 2 0 ∷ [])
     (answers 0 1008 4) opened
-    (after 2 [] (buffer 1000 8 1 ∷ buffer 1008 4 2 ∷ []) (hole 1012 28 ∷ []) []
+    (holding 4 40 2 [] (buffer 1000 8 1 ∷ buffer 1008 4 2 ∷ []) (hole 1012 28 ∷ []) []
     (page 1000 71 ∷ page 1004 72 ∷ page 1008 73 ∷ []) (address 1000 ∷ [])) ∷
     -- C
     row (mallocs 4 1)
     (create 74 4 0 ∷ map 1012 74 0 ∷ access 1012 4 0 ∷ recorded 2 1 0 ∷ [])
     (answers 0 1012 4) opened
-    (after 3 [] (buffer 1000 8 1 ∷ buffer 1008 4 2 ∷ buffer 1012 4 1 ∷ []) (hole 1016 24 ∷ []) []
+    (holding 4 40 3 [] (buffer 1000 8 1 ∷ buffer 1008 4 2 ∷ buffer 1012 4 1 ∷ []) (hole 1016 24 ∷ []) []
     (page 1000 71 ∷ page 1004 72 ∷ page 1008 73 ∷ page 1012 74 ∷ []) (address 1000 ∷ [])) ∷
     -- D
     row (frees 1000)
     (recorded 3 1 0 ∷ [])
     (answers 0 8 1) opened
-    (after 4 (region 1000 8 1 3 ∷ []) (buffer 1008 4 2 ∷ buffer 1012 4 1 ∷ []) (hole 1016 24 ∷ []) []
+    (holding 4 40 4 (region 1000 8 1 3 ∷ []) (buffer 1008 4 2 ∷ buffer 1012 4 1 ∷ []) (hole 1016 24 ∷ []) []
     (page 1000 71 ∷ page 1004 72 ∷ page 1008 73 ∷ page 1012 74 ∷ []) (address 1000 ∷ [])) ∷
     -- E
     row (frees 1012)
     (recorded 4 1 0 ∷ [])
     (answers 0 4 1) opened
-    (after 5 (region 1000 8 1 3 ∷ region 1012 4 1 4 ∷ []) (buffer 1008 4 2 ∷ []) (hole 1016 24 ∷ []) []
+    (holding 4 40 5 (region 1000 8 1 3 ∷ region 1012 4 1 4 ∷ []) (buffer 1008 4 2 ∷ []) (hole 1016 24 ∷ []) []
     (page 1000 71 ∷ page 1004 72 ∷ page 1008 73 ∷ page 1012 74 ∷ []) (address 1000 ∷ [])) ∷
     -- F
     row (mallocs 12 1)
     (map 1016 71 0 ∷ map 1020 72 0 ∷ map 1024 74 0 ∷ access 1016 12 0 ∷ recorded 5 1 0 ∷ [])
     (answers 0 1016 12) opened
-    (after 6 [] (buffer 1008 4 2 ∷ buffer 1016 12 1 ∷ []) (hole 1028 12 ∷ []) (zombie 1000 8 3 ∷ zombie 1012 4 4 ∷ [])
+    (holding 4 40 6 [] (buffer 1008 4 2 ∷ buffer 1016 12 1 ∷ []) (hole 1028 12 ∷ []) (zombie 1000 8 3 ∷ zombie 1012 4 4 ∷ [])
     (page 1008 73 ∷ page 1016 71 ∷ page 1020 72 ∷ page 1024 74 ∷ []) (address 1000 ∷ [])) ∷
     -- G
     row (mallocs 4 2)
     (asked 3 1 0 ∷ unmap 1000 8 0 ∷ asked 4 0 0 ∷ create 0 4 2 ∷ [])
     (answers 13 4 0) opened
-    (after 6 [] (buffer 1008 4 2 ∷ buffer 1016 12 1 ∷ []) (hole 1000 8 ∷ hole 1028 12 ∷ []) (zombie 1012 4 4 ∷ [])
+    (holding 4 40 6 [] (buffer 1008 4 2 ∷ buffer 1016 12 1 ∷ []) (hole 1000 8 ∷ hole 1028 12 ∷ []) (zombie 1012 4 4 ∷ [])
     (page 1008 73 ∷ page 1016 71 ∷ page 1020 72 ∷ page 1024 74 ∷ []) (address 1000 ∷ [])) ∷
     -- H
     row (mallocs 44 1)
     (asked 4 0 0 ∷ [])
     (answers 8 44 40) opened
-    (after 6 [] (buffer 1008 4 2 ∷ buffer 1016 12 1 ∷ []) (hole 1000 8 ∷ hole 1028 12 ∷ []) (zombie 1012 4 4 ∷ [])
+    (holding 4 40 6 [] (buffer 1008 4 2 ∷ buffer 1016 12 1 ∷ []) (hole 1000 8 ∷ hole 1028 12 ∷ []) (zombie 1012 4 4 ∷ [])
     (page 1008 73 ∷ page 1016 71 ∷ page 1020 72 ∷ page 1024 74 ∷ []) (address 1000 ∷ [])) ∷
     -- I
     row (frees 1000)
     []
     (answers 16 1000 0) opened
-    (after 6 [] (buffer 1008 4 2 ∷ buffer 1016 12 1 ∷ []) (hole 1000 8 ∷ hole 1028 12 ∷ []) (zombie 1012 4 4 ∷ [])
+    (holding 4 40 6 [] (buffer 1008 4 2 ∷ buffer 1016 12 1 ∷ []) (hole 1000 8 ∷ hole 1028 12 ∷ []) (zombie 1012 4 4 ∷ [])
     (page 1008 73 ∷ page 1016 71 ∷ page 1020 72 ∷ page 1024 74 ∷ []) (address 1000 ∷ [])) ∷
     -- J
     row (mallocs 6 1)
     []
     (answers 6 6 0) opened
-    (after 6 [] (buffer 1008 4 2 ∷ buffer 1016 12 1 ∷ []) (hole 1000 8 ∷ hole 1028 12 ∷ []) (zombie 1012 4 4 ∷ [])
+    (holding 4 40 6 [] (buffer 1008 4 2 ∷ buffer 1016 12 1 ∷ []) (hole 1000 8 ∷ hole 1028 12 ∷ []) (zombie 1012 4 4 ∷ [])
     (page 1008 73 ∷ page 1016 71 ∷ page 1020 72 ∷ page 1024 74 ∷ []) (address 1000 ∷ [])) ∷
     -- K
     row (mallocs 0 1)
     []
     (answers 6 0 0) opened
-    (after 6 [] (buffer 1008 4 2 ∷ buffer 1016 12 1 ∷ []) (hole 1000 8 ∷ hole 1028 12 ∷ []) (zombie 1012 4 4 ∷ [])
+    (holding 4 40 6 [] (buffer 1008 4 2 ∷ buffer 1016 12 1 ∷ []) (hole 1000 8 ∷ hole 1028 12 ∷ []) (zombie 1012 4 4 ∷ [])
     (page 1008 73 ∷ page 1016 71 ∷ page 1020 72 ∷ page 1024 74 ∷ []) (address 1000 ∷ [])) ∷
     -- L
     row (mallocs 40 1)
     (asked 4 1 0 ∷ unmap 1012 4 0 ∷ reserve 1040 40 0 ∷ create 81 4 0 ∷ map 1040 81 0 ∷ create 82 4 0 ∷ map 1044 82 0 ∷
     create 0 4 2 ∷ unmap 1040 4 0 ∷ release 81 0 0 ∷ unmap 1044 4 0 ∷ release 82 0 0 ∷ [])
     (answers 13 40 8) opened
-    (after 6 [] (buffer 1008 4 2 ∷ buffer 1016 12 1 ∷ []) (hole 1000 8 ∷ hole 1012 4 ∷ hole 1028 52 ∷ []) []
+    (holding 4 40 6 [] (buffer 1008 4 2 ∷ buffer 1016 12 1 ∷ []) (hole 1000 8 ∷ hole 1012 4 ∷ hole 1028 52 ∷ []) []
     (page 1008 73 ∷ page 1016 71 ∷ page 1020 72 ∷ page 1024 74 ∷ []) (address 1000 ∷ address 1040 ∷ [])) ∷
     -- M
     row (frees 1016)
     (recorded 6 1 0 ∷ [])
     (answers 0 12 1) opened
-    (after 7 (region 1016 12 1 6 ∷ []) (buffer 1008 4 2 ∷ []) (hole 1000 8 ∷ hole 1012 4 ∷ hole 1028 52 ∷ []) []
+    (holding 4 40 7 (region 1016 12 1 6 ∷ []) (buffer 1008 4 2 ∷ []) (hole 1000 8 ∷ hole 1012 4 ∷ hole 1028 52 ∷ []) []
     (page 1008 73 ∷ page 1016 71 ∷ page 1020 72 ∷ page 1024 74 ∷ []) (address 1000 ∷ address 1040 ∷ [])) ∷
     -- N
     row (mallocs 16 1)
     (create 75 4 0 ∷ map 1028 75 0 ∷ access 1028 4 0 ∷ recorded 7 1 0 ∷ [])
     (answers 0 1016 16) opened
-    (after 8 [] (buffer 1008 4 2 ∷ buffer 1016 16 1 ∷ []) (hole 1000 8 ∷ hole 1012 4 ∷ hole 1044 36 ∷ []) []
+    (holding 4 40 8 [] (buffer 1008 4 2 ∷ buffer 1016 16 1 ∷ []) (hole 1000 8 ∷ hole 1012 4 ∷ hole 1044 36 ∷ []) []
     (page 1008 73 ∷ page 1016 71 ∷ page 1020 72 ∷ page 1024 74 ∷ page 1028 75 ∷ []) (address 1000 ∷ address 1040 ∷ [])) ∷
     []
 
-pub follows : played closedPool session ≡ session
+pub follows : played closedPool aToN ≡ aToN
 unfolding answerBy
 follows = refl

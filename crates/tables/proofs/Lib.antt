@@ -1,1 +1,3 @@
 pub mod AToN
+pub mod Beyond
+pub mod Misreadings

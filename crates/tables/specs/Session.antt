@@ -5,6 +5,7 @@ use Prim.Native.Nat.{ℕ}
 use lib.Dec.{eqb}
 use Rattle.words.specs.Words.{number}
 use Rattle.words.specs.Answers.{ofPair, lent}
+use Rattle.words.specs.declared.Address.{Address}
 use Rattle.words.specs.declared.Record.{Record}
 use Rattle.words.specs.declared.Word.the-variants.{Reserve, Create, Asked}
 use Rattle.tables.specs.Values.{Tables, tablesOf, inOrder, atEntry, poolOf}
@@ -25,6 +26,11 @@ use Rattle.tables.specs.Open.{openSteps, badConfiguration, openFinished,
 use Rattle.tables.specs.Malloc.{roomRefused, orRoom, handOver, mallocSteps, mallocBy}
 use Rattle.tables.specs.Free.{freeSteps, freeFound, free}
 use Rattle.tables.specs.Close.{closeSteps, closeFinished, close}
+use Rattle.tables.specs.declared.FreeRegion.{FreeRegion}
+use Rattle.tables.specs.declared.LiveBuffer.{LiveBuffer}
+use Rattle.tables.specs.declared.Hole.{Hole}
+use Rattle.tables.specs.declared.Zombie.{Zombie}
+use Rattle.tables.specs.declared.Page.{Page}
 use Rattle.tables.specs.declared.Pool.{Pool}
 use Rattle.tables.specs.declared.Outcome.{Outcome}
 
@@ -75,3 +81,8 @@ answersIn (r ∷ l) = r .code ∷ valueIn r ∷ answersIn l
 -- a row whose answers are those that its records show
 abbrev pub row : Request → List Record → Numbers → ℕ → Tables → Row
 row q rs o s t = record { request = q; answers = answersIn rs; records = rs; result = o; state = s; tables = t }
+
+-- page size, va_size, counter, then the tables: free, live, holes, zombies, pages, roots
+abbrev pub holding : ℕ → ℕ → ℕ → List FreeRegion → List LiveBuffer → List Hole → List Zombie → List Page → List Address → Tables
+holding page va counter free live holes zombies pages roots =
+    record { page = page; va = va; counter = counter; free = free; live = live; holes = holes; zombies = zombies; pages = pages; roots = roots }
