@@ -83,8 +83,8 @@ aToN =
     (page 1008 73 ∷ page 1016 71 ∷ page 1020 72 ∷ page 1024 74 ∷ []) (address 1000 ∷ [])) ∷
     -- L
     row (mallocs 40 1)
-    (asked 4 1 0 ∷ unmap 1012 4 0 ∷ reserve 1040 40 0 ∷ create 81 4 0 ∷ map 1040 81 0 ∷ create 82 4 0 ∷ map 1044 82 0 ∷
-    create 0 4 2 ∷ unmap 1040 4 0 ∷ release 81 0 0 ∷ unmap 1044 4 0 ∷ release 82 0 0 ∷ [])
+    (asked 4 1 0 ∷ unmap 1012 4 0 ∷ reserve 1040 40 0 ∷ create 76 4 0 ∷ map 1040 76 0 ∷ create 77 4 0 ∷ map 1044 77 0 ∷
+    create 0 4 2 ∷ unmap 1040 4 0 ∷ release 76 0 0 ∷ unmap 1044 4 0 ∷ release 77 0 0 ∷ [])
     (answers 13 40 8) opened
     (holding 4 40 6 [] (buffer 1008 4 2 ∷ buffer 1016 12 1 ∷ []) (hole 1000 8 ∷ hole 1012 4 ∷ hole 1028 52 ∷ []) []
     (page 1008 73 ∷ page 1016 71 ∷ page 1020 72 ∷ page 1024 74 ∷ []) (address 1000 ∷ address 1040 ∷ [])) ∷

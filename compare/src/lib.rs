@@ -1,0 +1,14 @@
+//! The Rust pool under a made-up driver: its traces, and what they show of document 01's rules.
+
+pub mod bounds;
+pub mod card;
+pub mod choose;
+pub mod count;
+pub mod lent;
+pub mod program;
+pub mod random;
+pub mod replay;
+pub mod rules;
+pub mod session;
+pub mod text;
+pub mod words;
