@@ -1,9 +1,10 @@
-# make run: the first program there is. make test: the gate. make compare: the Rust beside us. make bench: what it costs.
+# run: the first program there is. test: the gate. compare: the Rust against the recorded sessions. bench: what calls cost.
 .PHONY: run test compare bench
 
 run:
-	@command -v rt >/dev/null || { echo "make run needs rt, the Rattle kit's command" >&2; exit 1; }
-	@rt check first_log >target/run.log 2>&1 || { mkdir -p target; cat target/run.log >&2; exit 1; }
+	@command -v rt >/dev/null || { echo "make run needs rt, the command of the Rattle kit" >&2; exit 1; }
+	@mkdir -p target
+	@rt check first_log >target/run.out 2>&1 || { cat target/run.out >&2; exit 1; }
 	@target/bin/first_log
 
 test:
