@@ -6,10 +6,16 @@ use Rattle.lists.specs.Cells.{packed}
 use Rattle.lists.specs.Order.{sorted}
 use Rattle.words.specs.declared.Address.{Address}
 use Rattle.tables.specs.declared.FreeRegion.{FreeRegion}
+use Rattle.tables.specs.declared.FreeRegions.{FreeRegions}
 use Rattle.tables.specs.declared.LiveBuffer.{LiveBuffer}
+use Rattle.tables.specs.declared.LiveBuffers.{LiveBuffers}
 use Rattle.tables.specs.declared.Hole.{Hole}
+use Rattle.tables.specs.declared.Holes.{Holes}
 use Rattle.tables.specs.declared.Zombie.{Zombie}
+use Rattle.tables.specs.declared.Zombies.{Zombies}
 use Rattle.tables.specs.declared.Page.{Page}
+use Rattle.tables.specs.declared.Pages.{Pages}
+use Rattle.tables.specs.declared.Roots.{Roots}
 use Rattle.tables.specs.declared.Pool.{Pool}
 
 abbrev pub address : ℕ → Address
@@ -42,19 +48,56 @@ pub record Tables : Type 0 where
   pub pages : List Page
   pub roots : List Address
 
--- The tables of a pool: of each the first cells, as many as its count.
+-- A table and its list: the first cells, as many as its count; every other cell of a table that a call leaves is 0.
+unfoldable pub freeOf : FreeRegions → List FreeRegion
+freeOf t = take (t .count) (t .cells)
+
+unfoldable pub packFree : List FreeRegion → FreeRegions
+packFree l = record { cells = packed 128 (region 0 0 0 0) l; count = length l }
+
+unfoldable pub liveOf : LiveBuffers → List LiveBuffer
+liveOf t = take (t .count) (t .cells)
+
+unfoldable pub packLive : List LiveBuffer → LiveBuffers
+packLive l = record { cells = packed 128 (buffer 0 0 0) l; count = length l }
+
+unfoldable pub holesOf : Holes → List Hole
+holesOf t = take (t .count) (t .cells)
+
+unfoldable pub packHoles : List Hole → Holes
+packHoles l = record { cells = packed 512 (hole 0 0) l; count = length l }
+
+unfoldable pub zombiesOf : Zombies → List Zombie
+zombiesOf t = take (t .count) (t .cells)
+
+unfoldable pub packZombies : List Zombie → Zombies
+packZombies l = record { cells = packed 128 (zombie 0 0 0) l; count = length l }
+
+unfoldable pub pagesOf : Pages → List Page
+pagesOf t = take (t .count) (t .cells)
+
+unfoldable pub packPages : List Page → Pages
+packPages l = record { cells = packed 256 (page 0 0) l; count = length l }
+
+unfoldable pub rootsOf : Roots → List Address
+rootsOf t = take (t .count) (t .cells)
+
+unfoldable pub packRoots : List Address → Roots
+packRoots l = record { cells = packed 16 (address 0) l; count = length l }
+
+-- The tables of a pool.
 unfoldable pub tablesOf : Pool → Tables
 tablesOf p =
     record {
       page = p .page;
       va = p .va;
       counter = p .counter;
-      free = take (p .free .count) (p .free .cells);
-      live = take (p .live .count) (p .live .cells);
-      holes = take (p .holes .count) (p .holes .cells);
-      zombies = take (p .zombies .count) (p .zombies .cells);
-      pages = take (p .pages .count) (p .pages .cells);
-      roots = take (p .roots .count) (p .roots .cells);
+      free = freeOf (p .free);
+      live = liveOf (p .live);
+      holes = holesOf (p .holes);
+      zombies = zombiesOf (p .zombies);
+      pages = pagesOf (p .pages);
+      roots = rootsOf (p .roots);
     }
 
 -- Free, live, holes and pages are sets, read in ascending address; the order of zombies and roots counts.
@@ -85,7 +128,7 @@ opened = 1
 abbrev pub stopped : ℕ
 stopped = 2
 
--- The pool that a call leaves: every cell past a count is 0.
+-- The pool that a call leaves.
 unfoldable pub poolOf : ℕ → Tables → Pool
 poolOf state t =
     record {
@@ -93,12 +136,12 @@ poolOf state t =
       page = t .page;
       va = t .va;
       counter = t .counter;
-      free = record { cells = packed 128 (region 0 0 0 0) (t .free); count = length (t .free) };
-      live = record { cells = packed 128 (buffer 0 0 0) (t .live); count = length (t .live) };
-      holes = record { cells = packed 512 (hole 0 0) (t .holes); count = length (t .holes) };
-      zombies = record { cells = packed 128 (zombie 0 0 0) (t .zombies); count = length (t .zombies) };
-      pages = record { cells = packed 256 (page 0 0) (t .pages); count = length (t .pages) };
-      roots = record { cells = packed 16 (address 0) (t .roots); count = length (t .roots) };
+      free = packFree (t .free);
+      live = packLive (t .live);
+      holes = packHoles (t .holes);
+      zombies = packZombies (t .zombies);
+      pages = packPages (t .pages);
+      roots = packRoots (t .roots);
     }
 
 abbrev pub noTables : ℕ → ℕ → Tables
