@@ -5,3 +5,4 @@ pub mod Cells
 pub mod Walks
 pub mod Order
 pub mod Members
+pub mod Filters
