@@ -1,10 +1,10 @@
 -- Counting. How often the ranges of a table hold an address, how many pages start at one, how often a handle or an id stands in a table: ranges are
 -- disjoint where an address is held at most once, and a range that is cut in two, or two that are joined, hold as before.
-use mathlib.Core.List.{List, [], _∷_}
-use Prim.Native.Nat.{ℕ, _+_, _-_, _≤_, _<_, min}
+use mathlib.Core.List.{List}
+use Prim.Native.Nat.{ℕ, _+_, _-_, min}
 use Rattle.lists.specs.Walks.{sum}
 use Rattle.words.specs.declared.Address.{Address}
-use Rattle.tables.specs.InsertHole.{from, upto}
+use Rattle.tables.specs.InsertHole.{from}
 use Rattle.tables.specs.declared.FreeRegion.{FreeRegion}
 use Rattle.tables.specs.declared.LiveBuffer.{LiveBuffer}
 use Rattle.tables.specs.declared.Hole.{Hole}
@@ -47,8 +47,3 @@ handlesAt l h = sum (λ g. equal (g .handle .0) h) l
 
 abbrev pub idsAt : List FreeRegion → ℕ → ℕ
 idsAt l i = sum (λ r. equal (r .id .0) i) l
-
--- holes in ascending address, none empty, no two touching, all above `b` and ending at or below `m`
-abbrev pub Apart : ℕ → ℕ → List Hole → Type 0
-Apart b m [] = b ≤ m
-Apart b m (h ∷ l) = (b < from h) × ((0 < h .size) × Apart (upto h) m l)

@@ -31,7 +31,8 @@ use Rattle.tables.specs.declared.Outcome.the-variants.{
   AnswersRanOut,
   BadConfiguration,
 }
-use Rattle.keeping.specs.Cover.{coverFree, coverLive, coverHoles, coverZombies, coverRoots, pagesAt, handlesAt, idsAt, Apart}
+use Rattle.tables.specs.InsertHole.{Apart}
+use Rattle.keeping.specs.Cover.{coverFree, coverLive, coverHoles, coverZombies, coverRoots, pagesAt, handlesAt, idsAt}
 
 -- no address
 abbrev pub none : ℕ → ℕ

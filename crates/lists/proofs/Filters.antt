@@ -5,12 +5,13 @@ use mathlib.Core.Bool.{Bool, true, false, cond, not}
 use mathlib.Core.List.{List, [], _∷_}
 use Prim.Native.Nat.{ℕ, suc, _+_, _≤_}
 use native.Mathlib.Omega.{arith}
+use borrow.Author.Tests.{ne-eqb}
 use lib.ListN.{length}
 use Rattle.lists.specs.Tests.{All, Member, filter}
-use Rattle.lists.specs.Order.{Rises}
+use Rattle.lists.specs.Order.{Rises, without}
 use Rattle.lists.specs.Walks.{sum}
 use Rattle.lists.proofs.Order.{rises-below}
-use Rattle.lists.proofs.Members.{all-members, member-filter}
+use Rattle.lists.proofs.Members.{all-members, member-filter, filter-member}
 
 module _ {A : Type 0} where
   pub all-to : (P Q : A → Type 0) → ((x : A) → P x → Q x) → (l : List A) → All P l → All Q l
@@ -46,3 +47,7 @@ module _ {A : Type 0} where
   pub sum-zero : (f : A → ℕ) (l : List A) → All (λ x. f x ≡ 0) l → sum f l ≡ 0
   sum-zero f [] a = refl
   sum-zero f (x ∷ l) a = omega (arith, a .0, sum-zero f l (a .1))
+
+  -- one of another key stays
+  pub without-member : (key : A → ℕ) (k : ℕ) (x : A) (l : List A) → Member x l → (key x ≡ k → ⊥) → Member x (without key k l)
+  without-member key k x l m ne = filter-member _ x l m (rw (ne-eqb (key x) k ne))

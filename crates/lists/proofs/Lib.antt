@@ -6,3 +6,5 @@ pub mod Walks
 pub mod Order
 pub mod Members
 pub mod Filters
+pub mod Maps
+pub mod Filled

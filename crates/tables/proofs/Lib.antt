@@ -1,3 +1,4 @@
+pub mod Packs
 pub mod AToN
 pub mod Beyond
 pub mod Misreadings

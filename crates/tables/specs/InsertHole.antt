@@ -1,7 +1,7 @@
 -- Document 01, **Insert hole.**
 use mathlib.Core.Bool.{cond}
 use mathlib.Core.List.{List, [], _∷_}
-use Prim.Native.Nat.{ℕ, _+_}
+use Prim.Native.Nat.{ℕ, _+_, _≤_, _<_}
 use lib.Dec.{ltb, eqb}
 use Rattle.tables.specs.Values.{hole}
 use Rattle.tables.specs.declared.Hole.{Hole}
@@ -26,3 +26,8 @@ insertRange a n (h ∷ l) = cond (ltb a (from h)) (glue (hole a n) (h ∷ l)) (g
 -- Insert hole. Merge with both touching holes, across roots too. (Make room: size 0 is ignored.)
 unfoldable pub insertHole : ℕ → ℕ → List Hole → List Hole
 insertHole a n l = cond (eqb n 0) l (insertRange a n l)
+
+-- holes in ascending address, none empty, no two touching, all above `b` and ending at or below `m`
+abbrev pub Apart : ℕ → ℕ → List Hole → Type 0
+Apart b m [] = b ≤ m
+Apart b m (h ∷ l) = (b < from h) × ((0 < h .size) × Apart (upto h) m l)

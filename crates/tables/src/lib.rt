@@ -113,6 +113,12 @@ impl Pool {
     pub const END: u64 = 0x8000_0000_0000_0000;
 }
 
+// The place of an entry in a table, or none.
+pub enum Choice {
+    At(usize),
+    Nothing,
+}
+
 // What a call answers. Its number, first and second are in specs/Outcomes.antt.
 pub enum Outcome {
     Opened(Address, u64),

@@ -1,0 +1,159 @@
+-- A table and its list: packing is undone by reading, a kept table is its list packed, and the packing of a list is kept. Assumes nothing.
+use mathlib.Core.Path.{_≡_, refl}
+use mathlib.Core.List.{List}
+use Prim.Native.Nat.{_≤_}
+use lib.ListN.{length}
+use Rattle.lists.proofs.Filled.{take-packed, filled-packed, filled-count}
+use Rattle.words.specs.declared.Address.{Address}
+use Rattle.tables.specs.Values.{
+  freeOf,
+  packFree,
+  liveOf,
+  packLive,
+  holesOf,
+  packHoles,
+  zombiesOf,
+  packZombies,
+  pagesOf,
+  packPages,
+  rootsOf,
+  packRoots,
+  address,
+  region,
+  buffer,
+  hole,
+  zombie,
+  page,
+}
+use Rattle.tables.specs.Kept.{KeptFree, KeptLive, KeptHoles, KeptZombies, KeptPages, KeptRoots}
+use Rattle.tables.specs.declared.FreeRegion.{FreeRegion}
+use Rattle.tables.specs.declared.FreeRegions.{FreeRegions}
+use Rattle.tables.specs.declared.LiveBuffer.{LiveBuffer}
+use Rattle.tables.specs.declared.LiveBuffers.{LiveBuffers}
+use Rattle.tables.specs.declared.Hole.{Hole}
+use Rattle.tables.specs.declared.Holes.{Holes}
+use Rattle.tables.specs.declared.Zombie.{Zombie}
+use Rattle.tables.specs.declared.Zombies.{Zombies}
+use Rattle.tables.specs.declared.Page.{Page}
+use Rattle.tables.specs.declared.Pages.{Pages}
+use Rattle.tables.specs.declared.Roots.{Roots}
+
+pub free-pack : (l : List FreeRegion) → freeOf (packFree l) ≡ l
+unfolding freeOf packFree
+free-pack l = take-packed 128 (region 0 0 0 0) l
+
+pub free-whole : (t : FreeRegions) → KeptFree t → t ≡ packFree (freeOf t)
+unfolding freeOf packFree
+free-whole t k = λ i. record { cells = k .whole i; count = filled-count k i }
+
+pub free-count : (t : FreeRegions) → KeptFree t → t .count ≡ length (freeOf t)
+unfolding freeOf
+free-count t k = filled-count k
+
+pub free-kept : (l : List FreeRegion) → length l ≤ 128 → KeptFree (packFree l)
+unfolding packFree
+free-kept l h = filled-packed 128 (region 0 0 0 0) l h
+
+pub free-packed-count : (l : List FreeRegion) → packFree l .count ≡ length l
+unfolding packFree
+free-packed-count l = refl
+
+pub live-pack : (l : List LiveBuffer) → liveOf (packLive l) ≡ l
+unfolding liveOf packLive
+live-pack l = take-packed 128 (buffer 0 0 0) l
+
+pub live-whole : (t : LiveBuffers) → KeptLive t → t ≡ packLive (liveOf t)
+unfolding liveOf packLive
+live-whole t k = λ i. record { cells = k .whole i; count = filled-count k i }
+
+pub live-count : (t : LiveBuffers) → KeptLive t → t .count ≡ length (liveOf t)
+unfolding liveOf
+live-count t k = filled-count k
+
+pub live-kept : (l : List LiveBuffer) → length l ≤ 128 → KeptLive (packLive l)
+unfolding packLive
+live-kept l h = filled-packed 128 (buffer 0 0 0) l h
+
+pub live-packed-count : (l : List LiveBuffer) → packLive l .count ≡ length l
+unfolding packLive
+live-packed-count l = refl
+
+pub holes-pack : (l : List Hole) → holesOf (packHoles l) ≡ l
+unfolding holesOf packHoles
+holes-pack l = take-packed 512 (hole 0 0) l
+
+pub holes-whole : (t : Holes) → KeptHoles t → t ≡ packHoles (holesOf t)
+unfolding holesOf packHoles
+holes-whole t k = λ i. record { cells = k .whole i; count = filled-count k i }
+
+pub holes-count : (t : Holes) → KeptHoles t → t .count ≡ length (holesOf t)
+unfolding holesOf
+holes-count t k = filled-count k
+
+pub holes-kept : (l : List Hole) → length l ≤ 512 → KeptHoles (packHoles l)
+unfolding packHoles
+holes-kept l h = filled-packed 512 (hole 0 0) l h
+
+pub holes-packed-count : (l : List Hole) → packHoles l .count ≡ length l
+unfolding packHoles
+holes-packed-count l = refl
+
+pub zombies-pack : (l : List Zombie) → zombiesOf (packZombies l) ≡ l
+unfolding zombiesOf packZombies
+zombies-pack l = take-packed 128 (zombie 0 0 0) l
+
+pub zombies-whole : (t : Zombies) → KeptZombies t → t ≡ packZombies (zombiesOf t)
+unfolding zombiesOf packZombies
+zombies-whole t k = λ i. record { cells = k .whole i; count = filled-count k i }
+
+pub zombies-count : (t : Zombies) → KeptZombies t → t .count ≡ length (zombiesOf t)
+unfolding zombiesOf
+zombies-count t k = filled-count k
+
+pub zombies-kept : (l : List Zombie) → length l ≤ 128 → KeptZombies (packZombies l)
+unfolding packZombies
+zombies-kept l h = filled-packed 128 (zombie 0 0 0) l h
+
+pub zombies-packed-count : (l : List Zombie) → packZombies l .count ≡ length l
+unfolding packZombies
+zombies-packed-count l = refl
+
+pub pages-pack : (l : List Page) → pagesOf (packPages l) ≡ l
+unfolding pagesOf packPages
+pages-pack l = take-packed 256 (page 0 0) l
+
+pub pages-whole : (t : Pages) → KeptPages t → t ≡ packPages (pagesOf t)
+unfolding pagesOf packPages
+pages-whole t k = λ i. record { cells = k .whole i; count = filled-count k i }
+
+pub pages-count : (t : Pages) → KeptPages t → t .count ≡ length (pagesOf t)
+unfolding pagesOf
+pages-count t k = filled-count k
+
+pub pages-kept : (l : List Page) → length l ≤ 256 → KeptPages (packPages l)
+unfolding packPages
+pages-kept l h = filled-packed 256 (page 0 0) l h
+
+pub pages-packed-count : (l : List Page) → packPages l .count ≡ length l
+unfolding packPages
+pages-packed-count l = refl
+
+pub roots-pack : (l : List Address) → rootsOf (packRoots l) ≡ l
+unfolding rootsOf packRoots
+roots-pack l = take-packed 16 (address 0) l
+
+pub roots-whole : (t : Roots) → KeptRoots t → t ≡ packRoots (rootsOf t)
+unfolding rootsOf packRoots
+roots-whole t k = λ i. record { cells = k .whole i; count = filled-count k i }
+
+pub roots-count : (t : Roots) → KeptRoots t → t .count ≡ length (rootsOf t)
+unfolding rootsOf
+roots-count t k = filled-count k
+
+pub roots-kept : (l : List Address) → length l ≤ 16 → KeptRoots (packRoots l)
+unfolding packRoots
+roots-kept l h = filled-packed 16 (address 0) l h
+
+pub roots-packed-count : (l : List Address) → packRoots l .count ≡ length l
+unfolding packRoots
+roots-packed-count l = refl
