@@ -44,6 +44,11 @@ holds-to {A} {m} {E} {P} {Q} {R} f h = record { leaves = λ xs k t p. go (m xs k
     go t (on a) q = f a t q
     go t (ends o) q = q
 
+-- a fact that is about no table
+pub holds-given : {A K : Type 0} {m : Step A} {E : Outcome → Tables → Type 0} {P : Tables → Type 0} {Q : A → Tables → Type 0} →
+    (K → Holds P m Q E) → Holds (λ t. K × P t) m Q E
+holds-given h = record { leaves = λ xs k t q. h (q .0) .leaves xs k t (q .1) }
+
 -- one step, then another
 pub holds-then : {A B : Type 0} {m : Step A} {f : A → Step B} {P : Tables → Type 0} {E : Outcome → Tables → Type 0} {R : B → Tables → Type 0}
     (Q : A → Tables → Type 0) → Holds P m Q E → ((a : A) → Holds (Q a) (f a) R E) → Holds P (m >>= f) R E

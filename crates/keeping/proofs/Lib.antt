@@ -18,3 +18,10 @@ pub mod Cleanup
 pub mod Fit
 pub mod HandOver
 pub mod FreeCall
+pub mod PulledRest
+pub mod PulledMultiples
+pub mod Starts
+pub mod Bare
+pub mod Pull
+pub mod PullOrder
+pub mod Move

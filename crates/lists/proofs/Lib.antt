@@ -8,3 +8,4 @@ pub mod Members
 pub mod Filters
 pub mod Maps
 pub mod Filled
+pub mod Sums
