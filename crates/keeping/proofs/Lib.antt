@@ -25,3 +25,10 @@ pub mod Bare
 pub mod Pull
 pub mod PullOrder
 pub mod Move
+pub mod Counting
+pub mod Inside
+pub mod PageStarts
+pub mod Ranges
+pub mod WellFormedTests
+pub mod WellFormedEnters
+pub mod WellFormedLeaves

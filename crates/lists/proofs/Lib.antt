@@ -9,3 +9,6 @@ pub mod Filters
 pub mod Maps
 pub mod Filled
 pub mod Sums
+pub mod Every
+pub mod SumLaws
+pub mod Pairs

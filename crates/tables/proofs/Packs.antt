@@ -1,11 +1,15 @@
 -- A table and its list: packing is undone by reading, a kept table is its list packed, and the packing of a list is kept. Assumes nothing.
 use mathlib.Core.Path.{_≡_, refl}
 use mathlib.Core.List.{List}
-use Prim.Native.Nat.{_≤_}
-use lib.ListN.{length}
+use Prim.Native.Nat.{ℕ, _≤_}
+use lib.ListN.{length, replicate}
 use Rattle.lists.proofs.Filled.{take-packed, filled-packed, filled-count}
 use Rattle.words.specs.declared.Address.{Address}
 use Rattle.tables.specs.Values.{
+  Tables,
+  tablesOf,
+  poolOf,
+  closedPool,
   freeOf,
   packFree,
   liveOf,
@@ -157,3 +161,37 @@ roots-kept l h = filled-packed 16 (address 0) l h
 pub roots-packed-count : (l : List Address) → packRoots l .count ≡ length l
 unfolding packRoots
 roots-packed-count l = refl
+
+-- a pool's tables are those that were put into it
+pub tables-pool : (state : ℕ) (t : Tables) → tablesOf (poolOf state t) ≡ t
+unfolding tablesOf poolOf
+tables-pool state t =
+    λ i. record {
+      page = t .page;
+      va = t .va;
+      counter = t .counter;
+      free = free-pack (t .free) i;
+      live = live-pack (t .live) i;
+      holes = holes-pack (t .holes) i;
+      zombies = zombies-pack (t .zombies) i;
+      pages = pages-pack (t .pages) i;
+      roots = roots-pack (t .roots) i;
+    }
+
+-- a closed pool is all 0: no cell is in use, and every cell is 0
+pub closed-is-zero :
+    closedPool ≡
+    record {
+      state = 0;
+      page = 0;
+      va = 0;
+      counter = 0;
+      free = record { cells = replicate 128 (region 0 0 0 0); count = 0 };
+      live = record { cells = replicate 128 (buffer 0 0 0); count = 0 };
+      holes = record { cells = replicate 512 (hole 0 0); count = 0 };
+      zombies = record { cells = replicate 128 (zombie 0 0 0); count = 0 };
+      pages = record { cells = replicate 256 (page 0 0); count = 0 };
+      roots = record { cells = replicate 16 (address 0); count = 0 };
+    }
+unfolding poolOf packFree packLive packHoles packZombies packPages packRoots
+closed-is-zero = refl

@@ -1,0 +1,144 @@
+-- What a call leaves is well formed: each clause holds of sound tables, and the pool that holds them is read back as they are. The pages stand in
+-- the order of the test, since both lists rise and count the same at every address. Assumes nothing.
+use mathlib.Core.Path.{_≡_, ap, _∙_, sym}
+use mathlib.Core.Logic.{⊎-elim}
+use mathlib.Core.Bool.{true}
+use mathlib.Core.List.{List, [], _∷_, map}
+use Prim.Native.Nat.{ℕ, _+_, _%_, _≤_, _<_, _^_}
+use native.Mathlib.Omega.{arith}
+use borrow.Author.Tests.{le-leb}
+use lib.Dec.{leb}
+use lib.ListN.{length}
+use Rattle.lists.specs.Tests.{All}
+use Rattle.lists.specs.Order.{sorted, Rises}
+use Rattle.lists.proofs.Tests.{cases-eq}
+use Rattle.lists.proofs.Every.{Pairs, and-true, all-implies, pairs-implies, pairs-map}
+use Rattle.lists.proofs.Order.{sorted-ascends, sorted-same, rises-ascends}
+use Rattle.lists.proofs.Pairs.{rises-pairs, pairs-rises}
+use Rattle.lists.proofs.SumLaws.{sum-map}
+use Rattle.tables.specs.Values.{address, page, Tables, inOrder, atEntry, poolOf, opened, packFree, packLive, packHoles, packZombies, packPages, packRoots}
+use Rattle.tables.specs.InsertHole.{from, upto, Apart}
+use Rattle.tables.specs.WellFormed.{spans, ranges, holesIn, ceilingsKept, sound, wellFormed}
+use Rattle.tables.specs.declared.Hole.{Hole}
+use Rattle.tables.proofs.Packs.{tables-pool}
+use Rattle.keeping.specs.Cover.{within, equal, pagesAt}
+use Rattle.keeping.specs.Sound.{none, Sound, Ceilings, Kept}
+use Rattle.keeping.proofs.Counting.{keysAt, once-differ, counts-same, once-parted, ordered, all-cover}
+use Rattle.keeping.proofs.Inside.{covered-inside}
+use Rattle.keeping.proofs.PageStarts.{WholeSpan, pageStarts, count-pages, whole-pages, rise-pages, unaligned-none}
+use Rattle.keeping.proofs.Ranges.{tablesAt, rootsAt, ofHole, spansInOrder, cover-inOrder, all-inOrder, cover-ranges, of-each}
+use Rattle.keeping.proofs.WellFormedTests.{Loose, Clauses, clauses-pass}
+
+-- holes in order: all above the bound, and pair by pair
+apart-above : (b m : ℕ) (l : List Hole) → Apart b m l → All (λ h. b < from h) l
+apart-above b m [] w = tt
+apart-above b m (h ∷ l) w = (w .0, all-implies (λ k. upto h < from k) (λ k. b < from k) (λ k p. omega arith) l (apart-above (upto h) m l (w .1 .1)))
+
+apart-pairs : (b m : ℕ) (l : List Hole) → Apart b m l → Pairs (λ h k. upto h < from k) l
+apart-pairs b m [] w = tt
+apart-pairs b m (h ∷ l) w = (apart-above (upto h) m l (w .1 .1), apart-pairs (upto h) m l (w .1 .1))
+
+apart-rises : (b m : ℕ) (l : List Hole) → Apart b m l → Rises from b l
+apart-rises b m l w =
+    pairs-rises from b l (apart-above b m l w) (pairs-implies (λ h k. upto h < from k) (λ h k. from h < from k) (λ h k p. omega arith) l (apart-pairs b m l w))
+
+module _ (lost : ℕ → ℕ) (t : Tables) (s : Sound lost none none t) where
+  tables-held : (x : ℕ) → tablesAt t x ≤ rootsAt t x
+  tables-held x = omega (arith, s .covered x)
+
+  ranges-whole : All (WholeSpan (t .page)) (ranges t)
+  ranges-whole = of-each t (WholeSpan (t .page)) (record { free = s .free; live = s .live; holes = s .holes; zombies = s .zombies })
+
+  ranges-inside : All (λ h. (x : ℕ) → within (h .from) (h .size) x ≤ rootsAt t x) (ranges t)
+  ranges-inside = all-cover (λ h. h .from) (λ h. h .size) (rootsAt t) (ranges t) (λ x. omega (arith, cover-ranges t x, tables-held x))
+
+  holes-loose : Pairs Loose (holesIn t)
+  holes-loose =
+      pairs-map ofHole Loose (t .holes)
+      (pairs-implies (λ h k. upto h < from k) (λ h k. Loose (ofHole h) (ofHole k)) (λ h k p. ((λ e. omega arith), (λ e. omega arith))) (t .holes)
+      (apart-pairs 0 (2 ^ 63) (t .holes) (s .holesApart)))
+
+  spans-whole : All (WholeSpan (t .page)) (spansInOrder t)
+  spans-whole = all-inOrder t (WholeSpan (t .page)) ranges-whole
+
+  spans-rise : Pairs (λ h k. h .from + h .size ≤ k .from) (spansInOrder t)
+  spans-rise =
+      ordered (λ h. h .from) (λ h. h .size) 0 (spansInOrder t) (all-implies _ _ (λ h w. w .size .positive) (spansInOrder t) spans-whole)
+      (sorted-ascends (λ h. h .from) (spans t)) (λ x. omega (arith, cover-inOrder t x, tables-held x, s .rootsOnce x))
+
+  pages-count : (x : ℕ) → pagesAt (t .pages) x ≡ keysAt (λ s. s) (pageStarts (t .page) (spansInOrder t)) x
+  pages-count x = ⊎-elim aligned unaligned (cases-eq (x % t .page) 0)
+    where
+      aligned : x % t .page ≡ 0 → pagesAt (t .pages) x ≡ keysAt (λ s. s) (pageStarts (t .page) (spansInOrder t)) x
+      aligned e =
+          omega (arith, s .pagesMatch x e, count-pages (t .page) (s .page) (spansInOrder t) spans-whole x e, cover-inOrder t x)
+
+      unaligned : (x % t .page ≡ 0 → ⊥) → pagesAt (t .pages) x ≡ keysAt (λ s. s) (pageStarts (t .page) (spansInOrder t)) x
+      unaligned e =
+          unaligned-none (λ g. g .start .0) (t .page) x e (t .pages) (s .pages)
+          ∙ sym (unaligned-none (λ s. s) (t .page) x e (pageStarts (t .page) (spansInOrder t)) (whole-pages (t .page) (s .page) (spansInOrder t) spans-whole))
+
+  pages-same : map (λ g. g .start .0) (t .pages) ≡ pageStarts (t .page) (spansInOrder t)
+  pages-same =
+      counts-same (map (λ g. g .start .0) (t .pages)) (pageStarts (t .page) (spansInOrder t))
+      (pairs-map (λ g. g .start .0) (λ a b. a < b) (t .pages) (rises-pairs (λ g. g .start .0) 0 (t .pages) (s .pagesRise)))
+      (rise-pages (t .page) (s .page) (spansInOrder t) spans-whole spans-rise)
+      (λ x. sum-map (λ a. equal a x) (λ g. g .start .0) (t .pages) ∙ pages-count x)
+
+  sound-clauses : Clauses t
+  sound-clauses =
+      record {
+        page = s .page;
+        va = s .va;
+        small = s .small;
+        rootsParted = once-parted (λ a. a .0) (λ a. t .va) (t .roots) (s .rootsOnce);
+        roots = s .roots;
+        whole = ranges-whole;
+        parted = once-parted (λ h. h .from) (λ h. h .size) (ranges t) (λ x. omega (arith, cover-ranges t x, tables-held x, s .rootsOnce x));
+        inside = all-implies _ _ (λ h f. covered-inside (λ a. a .0) (λ a. t .va) (t .roots) (s .rootsOnce) (h .from) (h .size) f) (ranges t) ranges-inside;
+        loose = holes-loose;
+        pages = pages-same;
+        handles = pairs-map (λ g. g .handle .0) (λ a b. a ≡ b → ⊥) (t .pages) (once-differ (λ g. g .handle .0) (t .pages) (s .handlesOnce));
+        ids = pairs-map (λ r. r .id .0) (λ a b. a ≡ b → ⊥) (t .free) (once-differ (λ r. r .id .0) (t .free) (s .idsOnce));
+        freeIds = s .freeIds;
+        zombieIds = s .zombieIds;
+      }
+
+  -- tables in order are read in that order
+  inOrder-same : inOrder t ≡ t
+  unfolding inOrder
+  inOrder-same =
+      λ i. record {
+        page = t .page;
+        va = t .va;
+        counter = t .counter;
+        free = rises-sorted (λ r. r .start .0) (t .free) (s .freeRises) i;
+        live = rises-sorted (λ b. b .start .0) (t .live) (s .liveRises) i;
+        holes = rises-sorted (λ h. h .start .0) (t .holes) (apart-rises 0 (2 ^ 63) (t .holes) (s .holesApart)) i;
+        zombies = t .zombies;
+        pages = rises-sorted (λ g. g .start .0) (t .pages) (s .pagesRise) i;
+        roots = t .roots;
+      }
+    where
+      rises-sorted : {A : Type 0} (key : A → ℕ) (l : List A) → Rises key 0 l → sorted key l ≡ l
+      rises-sorted key l r = sorted-same key 0 l (rises-ascends key 0 l r)
+
+ceilings-pass : (state : ℕ) (t : Tables) → Ceilings t → ceilingsKept (poolOf state t) ≡ true
+unfolding ceilingsKept poolOf packFree packLive packHoles packZombies packPages packRoots
+ceilings-pass state t c =
+    and-true (leb (length (t .pages)) 256) _ (le-leb (length (t .pages)) 256 (c .pages))
+    (and-true (leb (length (t .free) + length (t .live)) 128) _ (le-leb (length (t .free) + length (t .live)) 128 (c .spans))
+    (and-true (leb (length (t .zombies)) 128) _ (le-leb (length (t .zombies)) 128 (c .zombies))
+    (and-true (leb (length (t .holes) + length (t .zombies)) 512) _ (le-leb (length (t .holes) + length (t .zombies)) 512 (c .holes))
+    (le-leb (length (t .roots)) 16 (c .roots)))))
+
+-- the next call reads the tables as this one left them
+pub read-back : (lost : ℕ → ℕ) (state : ℕ) (t : Tables) → Sound lost none none t → atEntry (poolOf state t) ≡ t
+read-back lost state t s = ap inOrder (tables-pool state t) ∙ inOrder-same lost t s
+
+sound-pool : (lost : ℕ → ℕ) (t : Tables) → Sound lost none none t → sound (atEntry (poolOf opened t)) ≡ true
+sound-pool lost t s = rw (read-back lost opened t s) (clauses-pass t (sound-clauses lost t s))
+
+pub well-formed : (lost : ℕ → ℕ) (t : Tables) → Kept lost t → wellFormed (poolOf opened t) ≡ true
+unfolding wellFormed poolOf
+well-formed lost t k = and-true (ceilingsKept (poolOf opened t)) _ (ceilings-pass opened t (k .ceilings)) (sound-pool lost t (k .sound))
