@@ -1,0 +1,43 @@
+-- `driving::hear` meets its contract: the answer is the lent one, and its record has the answer's value. Assumes nothing.
+use Rattle.words.specs.Words.{line}
+use Rattle.words.specs.Answers.{codeOf, valueOf}
+use Rattle.driving.proofs.Ran.{drove}
+use borrow.Author.Needs.{needs}
+use Rattle.driving.proofs.hear.Statement.{statement}
+use Rattle.driving.proofs.hear.Tie as tie
+
+at-requires : tie.Need-at-requires
+at-requires c κs = search needs
+
+number-requires : tie.Need-number-requires
+number-requires c κs = search needs
+
+value-requires : tie.Need-value-requires
+value-requires c κs = search needs
+
+code-requires : tie.Need-code-requires
+code-requires c κs = search needs
+
+write-requires : tie.Need-write-requires
+write-requires c κs = search needs
+
+same-length : tie.Need-same-length
+same-length c = search needs
+
+returns : tie.Need-returns
+returns c =
+    let a = c .before .before .before .before .before .before .before .before .before .before .args in
+    λ t. drove (λ x. line (a .word) (valueOf x) (a .second) (codeOf x)) (c .before .before .before .before .before .before .before .at .ensures)
+    (rw (c .before .before .before .before .before .before .number .ensures, c .before .before .before .before .before .value .ensures, c .before .before .before .before .code .ensures) at (c .before .before .write .ensures))
+
+pub hear-spec : {M : Type 1} → statement M
+hear-spec =
+    tie.close
+    (tie.spec
+    at-requires
+    number-requires
+    value-requires
+    code-requires
+    write-requires
+    same-length
+    returns)

@@ -1,0 +1,50 @@
+-- `driving::is_complete` meets its contract: complete for the value 1 alone, and an end where no answer is left. Assumes nothing.
+use Rattle.driving.proofs.Ran.{next, stop, gave}
+use borrow.Author.Needs.{needs}
+use Rattle.driving.proofs.is_complete.Statement.{statement}
+use Rattle.driving.proofs.is_complete.Tie as tie
+
+ask-requires : tie.Need-ask-requires
+ask-requires c κs = search needs
+
+enum-known-answer : tie.Need-enum-known-answer
+enum-known-answer c = search needs
+
+enum-told : tie.Need-enum-told
+enum-told c = search needs
+
+enum-told-2 : tie.Need-enum-told-2
+enum-told-2 c = search needs
+
+same-length : tie.Need-same-length
+same-length c = search needs
+
+returns : tie.Need-returns
+returns c = λ t. next _ (rw (c .before .answer .given .1) at (c .before .before .before .before .before .ask .ensures t)) gave
+
+same-length-2 : tie.Need-same-length-2
+same-length-2 c = search needs
+
+returns-2 : tie.Need-returns-2
+returns-2 c = λ t. next _ (rw (c .enum-told .given .1) at (c .before .before .before .before .ask .ensures t)) gave
+
+same-length-3 : tie.Need-same-length-3
+same-length-3 c = search needs
+
+returns-3 : tie.Need-returns-3
+returns-3 c = λ t. stop _ (rw (c .enum-told2 .given .1) at (c .before .before .before .before .ask .ensures t))
+
+pub is-complete-spec : {M : Type 1} → statement M
+is-complete-spec =
+    tie.close
+    (tie.spec
+    ask-requires
+    enum-known-answer
+    enum-told
+    enum-told-2
+    same-length
+    returns
+    same-length-2
+    returns-2
+    same-length-3
+    returns-3)

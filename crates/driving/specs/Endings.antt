@@ -1,0 +1,17 @@
+-- How what the code hands back is read.
+use mathlib.Core.Bool.{Bool}
+use Rattle.tables.specs.Steps.{Ending, on, ends}
+use Rattle.tables.specs.declared.Outcome.the-variants.{AnswersRanOut}
+use Rattle.driving.specs.declared.Ended.{Ended}
+use Rattle.driving.specs.declared.Ended.the-variants.{On, Ends}
+use Rattle.driving.specs.declared.Asked.{Asked}
+use Rattle.driving.specs.declared.Asked.the-variants.{Complete, Unasked}
+
+-- a step with no value
+abbrev pub ending : Ended → Ending (Unit {0})
+ending On = on tt
+ending (Ends o) = ends o
+
+abbrev pub askedEnding : Asked → Ending Bool
+askedEnding (Complete b) = on b
+askedEnding Unasked = ends AnswersRanOut

@@ -1,0 +1,167 @@
+// Driver calls: each takes the next lent answer and leaves its record in the log, after `made` others. `answers` and `log` are those of the whole call.
+ghost use mathlib.Core.Bool.{cond};
+ghost use mathlib.Core.Path.{_≡_};
+ghost use Prim.Native.Nat.{_+_, _*_, _≤_};
+ghost use lib.ListN.{length};
+ghost use Rattle.words.specs.Words.{line};
+ghost use Rattle.words.specs.Answers.{codeOf, valueOf, complete};
+ghost use Rattle.tables.specs.Driver.{heard, driver, must, try, isComplete, reserve as reserveStep, create as createStep, ask as askStep};
+ghost use Rattle.driving.specs.Ran.{Drove};
+ghost use Rattle.driving.specs.Endings.{ending, askedEnding};
+use tables::Outcome;
+use words::Answer;
+use words::EventId;
+use words::Record;
+use words::Word;
+
+// How a part of a call ended.
+pub enum Ended {
+    On,
+    Ends(Outcome),
+}
+
+pub enum Asked {
+    Complete(bool),
+    Unasked,
+}
+
+// A driver call whose record is known but for its code.
+pub fn tell(
+    answers: &[u64],
+    log: &mut [u64],
+    made: usize,
+    word: Word,
+    first: u64,
+    second: u64,
+) -> Answer
+    requires { ⌜ 4 * (made + 1) ≤ length (now log) ⌝ }
+    ensures { λ r. ⌜ Drove (driver (λ x. line word first second (codeOf x))) (now (answers .entry)) made (now (log .entry)) (heard r) (now (log .exit)) ⌝ }
+{
+    let answer = Answer::at(answers, made);
+    let kind = word.number();
+    let code = answer.code();
+    let record = Record {
+        kind,
+        first,
+        second,
+        code,
+    };
+    record.write(log, made);
+    answer
+}
+
+// A driver call whose first field is the answer's value.
+fn hear(answers: &[u64], log: &mut [u64], made: usize, word: Word, second: u64) -> Answer
+    requires { ⌜ 4 * (made + 1) ≤ length (now log) ⌝ }
+    ensures { λ r. ⌜ Drove (driver (λ x. line word (valueOf x) second (codeOf x))) (now (answers .entry)) made (now (log .entry)) (heard r) (now (log .exit)) ⌝ }
+{
+    let answer = Answer::at(answers, made);
+    let kind = word.number();
+    let first = answer.value();
+    let code = answer.code();
+    let record = Record {
+        kind,
+        first,
+        second,
+        code,
+    };
+    record.write(log, made);
+    answer
+}
+
+// A base for a new root.
+pub fn reserve(answers: &[u64], log: &mut [u64], made: usize, va: u64) -> Answer
+    requires { ⌜ 4 * (made + 1) ≤ length (now log) ⌝ }
+    ensures { λ r. ⌜ Drove (reserveStep va) (now (answers .entry)) made (now (log .entry)) (heard r) (now (log .exit)) ⌝ }
+{
+    hear(answers, log, made, Word::Reserve, va)
+}
+
+// A new page handle.
+pub fn create(answers: &[u64], log: &mut [u64], made: usize, page: u64) -> Answer
+    requires { ⌜ 4 * (made + 1) ≤ length (now log) ⌝ }
+    ensures { λ r. ⌜ Drove (createStep page) (now (answers .entry)) made (now (log .entry)) (heard r) (now (log .exit)) ⌝ }
+{
+    hear(answers, log, made, Word::Create, page)
+}
+
+// 1 for complete, else 0.
+fn completion(answer: Answer) -> u64
+    ensures { λ r. ⌜ r ≡ cond (complete answer) 1 0 ⌝ }
+{
+    if answer.value() == 1 {
+        return 1;
+    }
+    0
+}
+
+fn ask(answers: &[u64], log: &mut [u64], made: usize, id: EventId) -> Answer
+    requires { ⌜ 4 * (made + 1) ≤ length (now log) ⌝ }
+    ensures { λ r. ⌜ Drove (askStep (id .0)) (now (answers .entry)) made (now (log .entry)) (heard r) (now (log .exit)) ⌝ }
+{
+    let answer = Answer::at(answers, made);
+    let kind = Word::Asked.number();
+    let second = completion(answer);
+    let code = answer.code();
+    let record = Record {
+        kind,
+        first: id.0,
+        second,
+        code,
+    };
+    record.write(log, made);
+    answer
+}
+
+// Whether an event is complete. It never stops a call, unless no answer is left.
+pub fn is_complete(answers: &[u64], log: &mut [u64], made: usize, id: EventId) -> Asked
+    requires { ⌜ 4 * (made + 1) ≤ length (now log) ⌝ }
+    ensures { λ r. ⌜ Drove (isComplete (id .0)) (now (answers .entry)) made (now (log .entry)) (askedEnding r) (now (log .exit)) ⌝ }
+{
+    let answer = ask(answers, log, made, id);
+    match answer {
+        Answer::Done(value) => Asked::Complete(value == 1),
+        Answer::Failed(_) => Asked::Complete(false),
+        Answer::Missing => Asked::Unasked,
+    }
+}
+
+// A failure ends the call with 14.
+pub fn must_tell(
+    answers: &[u64],
+    log: &mut [u64],
+    made: usize,
+    word: Word,
+    first: u64,
+    second: u64,
+) -> Ended
+    requires { ⌜ 4 * (made + 1) ≤ length (now log) ⌝ }
+    ensures { λ r. ⌜ Drove (must (driver (λ x. line word first second (codeOf x)))) (now (answers .entry)) made (now (log .entry)) (ending r) (now (log .exit)) ⌝ }
+{
+    let answer = tell(answers, log, made, word, first, second);
+    match answer {
+        Answer::Done(_) => Ended::On,
+        Answer::Failed(code) => Ended::Ends(Outcome::DriverFailed(code)),
+        Answer::Missing => Ended::Ends(Outcome::AnswersRanOut),
+    }
+}
+
+// A failure is ignored.
+pub fn try_tell(
+    answers: &[u64],
+    log: &mut [u64],
+    made: usize,
+    word: Word,
+    first: u64,
+    second: u64,
+) -> Ended
+    requires { ⌜ 4 * (made + 1) ≤ length (now log) ⌝ }
+    ensures { λ r. ⌜ Drove (try (driver (λ x. line word first second (codeOf x)))) (now (answers .entry)) made (now (log .entry)) (ending r) (now (log .exit)) ⌝ }
+{
+    let answer = tell(answers, log, made, word, first, second);
+    match answer {
+        Answer::Done(_) => Ended::On,
+        Answer::Failed(_) => Ended::On,
+        Answer::Missing => Ended::Ends(Outcome::AnswersRanOut),
+    }
+}
