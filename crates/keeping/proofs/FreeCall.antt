@@ -8,23 +8,16 @@ use Rattle.lists.specs.Tests.{Member}
 use Rattle.lists.specs.Order.{without}
 use Rattle.lists.proofs.Members.{member-all, all-without, rises-without, sum-without, length-without}
 use Rattle.tables.specs.Values.{Tables, withLive}
-use Rattle.tables.specs.Steps.{Step}
 use Rattle.tables.specs.InsertFree.{bytes}
 use Rattle.tables.specs.Free.{freeSteps}
 use Rattle.tables.specs.declared.LiveBuffer.{LiveBuffer}
-use Rattle.tables.specs.declared.Outcome.{Outcome}
 use Rattle.tables.specs.declared.Outcome.the-variants.{Freed}
 use Rattle.keeping.specs.Cover.{within, coverLive}
 use Rattle.keeping.specs.Sound.{none, WholeRange, Kept, Left}
 use Rattle.keeping.specs.Holds.{Holds}
-use Rattle.keeping.proofs.Holds.{holds-from, holds-then, holds-give, holds-change}
+use Rattle.keeping.proofs.Holds.{holds-from, holds-named, holds-then, holds-give, holds-change}
 use Rattle.keeping.proofs.Spans.{Spans, sound-spans, few-spans, few-ceilings, ceilings-few}
 use Rattle.keeping.proofs.InsertFree.{Inserting, Inserted, inserts-free}
-
--- the tables that a step starts from, by name
-holds-named : {A : Type 0} {m : Step A} {P : Tables → Type 0} {Q : A → Tables → Type 0} {E : Outcome → Tables → Type 0} →
-    ((u : Tables) → P u → Holds (λ t. t ≡ u) m Q E) → Holds P m Q E
-holds-named h = record { leaves = λ xs k t p. h t p .leaves xs k t refl }
 
 -- the live buffers but `b`
 abbrev others : LiveBuffer → Tables → List LiveBuffer

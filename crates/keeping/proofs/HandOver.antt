@@ -18,8 +18,9 @@ use Rattle.tables.specs.InsertFree.{from, putRest, withoutFree}
 use Rattle.tables.specs.Malloc.{handOver}
 use Rattle.tables.specs.declared.FreeRegion.{FreeRegion}
 use Rattle.tables.specs.declared.LiveBuffer.{LiveBuffer}
+use Rattle.tables.specs.declared.Outcome.{Outcome}
 use Rattle.keeping.specs.Cover.{within, equal, coverFree, coverLive}
-use Rattle.keeping.specs.Sound.{none, Whole, WholeRange, Sound, Kept, Left}
+use Rattle.keeping.specs.Sound.{none, Whole, WholeRange, Sound, Kept}
 use Rattle.keeping.specs.Counts.{Few}
 use Rattle.keeping.specs.Holds.{Holds}
 use Rattle.keeping.proofs.Cover.{within-in}
@@ -132,6 +133,7 @@ module _ {lost : ℕ → ℕ} (n s : ℕ) (r : FreeRegion) (t : Tables) (h : Han
         ceilings = few-ceilings (few-spans (regions n r t) (buffers n s r t) (h .few) spans);
       }
 
-pub hands-over : (lost : ℕ → ℕ) (n s : ℕ) (r : FreeRegion) → Holds (Handing lost n r) (handOver n s r) (λ _. Kept lost) (Left lost)
+-- Handing over never ends the call.
+pub hands-over : (lost : ℕ → ℕ) (n s : ℕ) (r : FreeRegion) {E : Outcome → Tables → Type 0} → Holds (Handing lost n r) (handOver n s r) (λ _. Kept lost) E
 unfolding handOver _>>=_
 hands-over lost n s r = record { leaves = λ xs k t h. hand-kept n s r t h }

@@ -44,6 +44,19 @@ holds-to {A} {m} {E} {P} {Q} {R} f h = record { leaves = λ xs k t p. go (m xs k
     go t (on a) q = f a t q
     go t (ends o) q = q
 
+-- the tables that a step starts from, by name
+pub holds-named : {A : Type 0} {m : Step A} {P : Tables → Type 0} {Q : A → Tables → Type 0} {E : Outcome → Tables → Type 0} →
+    ((u : Tables) → P u → Holds (λ t. t ≡ u) m Q E) → Holds P m Q E
+holds-named h = record { leaves = λ xs k t p. h t p .leaves xs k t refl }
+
+-- whatever the step
+pub holds-any : {A : Type 0} {m : Step A} {P : Tables → Type 0} → Holds P m (λ _ _. Unit {0}) (λ _ _. Unit {0})
+holds-any {A} {m} = record { leaves = λ xs k t p. go (m xs k t .tables) (m xs k t .ending) }
+  where
+    go : (t : Tables) (e : Ending A) → After (λ _ _. Unit {0}) (λ _ _. Unit {0}) t e
+    go t (on a) = tt
+    go t (ends o) = tt
+
 -- a fact that is about no table
 pub holds-given : {A K : Type 0} {m : Step A} {E : Outcome → Tables → Type 0} {P : Tables → Type 0} {Q : A → Tables → Type 0} →
     (K → Holds P m Q E) → Holds (λ t. K × P t) m Q E

@@ -32,3 +32,9 @@ pub mod Ranges
 pub mod WellFormedTests
 pub mod WellFormedEnters
 pub mod WellFormedLeaves
+pub mod PullIn
+pub mod Fill
+pub mod MakeRoom
+pub mod Malloc
+pub mod Open
+pub mod Kept

@@ -14,7 +14,7 @@ use Rattle.lists.proofs.Tests.{all-append, all-filter, cases-eq}
 use Rattle.lists.proofs.Order.{sum-sorted, all-sorted}
 use Rattle.lists.proofs.Walks.{sum-append, sum-filter}
 use Rattle.lists.proofs.Members.{all-members, all-without, sum-without}
-use Rattle.tables.specs.Values.{Tables}
+use Rattle.tables.specs.Values.{Tables, withFree}
 use Rattle.tables.specs.InsertFree.{from, bytes, withoutFree}
 use Rattle.tables.specs.Pull.{ownOf, othersOf, pullOrder}
 use Rattle.tables.specs.declared.FreeRegion.{FreeRegion}
@@ -64,10 +64,11 @@ module _ {A : Type 0} (key : A → ℕ) where
       (cases-eq (key x) a)
 
 -- What pulling starts from: the free table is made up of the regions `l`, which have all that lacks, and of `keep`.
-module _ (lost hand : ℕ → ℕ) (p s lacks c : ℕ) (t : Tables) (sound : Sound lost hand none t) (few : Few 0 c t) (pullable : Pullable t) (page : t .page ≡ p) (aligned : lacks % p ≡ 0) where
+module _ (lost hand : ℕ → ℕ) (p s lacks c : ℕ) (t : Tables) (sound : Sound lost hand none t) (few : Few 0 c t) (page : t .page ≡ p) (aligned : lacks % p ≡ 0) where
   pulling-first : (keep l : List FreeRegion) → All (λ r. Member r (t .free)) keep → All (λ r. Member r (t .free)) l →
-      ((f : FreeRegion → ℕ) → sum f l + sum f keep ≡ sum f (t .free)) → lacks ≤ bytes l → Pulling lost hand none p lacks c keep (pullOrder s l) t
-  pulling-first keep l kept members parts enough =
+      ((f : FreeRegion → ℕ) → sum f l + sum f keep ≡ sum f (t .free)) → Pullable (withFree l t) → lacks ≤ bytes l →
+      Pulling lost hand none p lacks c keep (pullOrder s l) t
+  pulling-first keep l kept members parts pullable enough =
       record {
         sound = sound;
         members = all-pullOrder s l (λ r. Member r (t .free)) members;
@@ -79,24 +80,23 @@ module _ (lost hand : ℕ → ℕ) (p s lacks c : ℕ) (t : Tables) (sound : Sou
               parts (λ r. equal (r .start .0) a),
               rises-once from 0 a (t .free) (sound .freeRises),
             );
-        zombies = omega (arith, pullable .zombies, length-pullOrder s l, shorter);
-        holes = omega (arith, pullable .holes, length-pullOrder s l, shorter);
+        zombies = omega (arith, pullable .zombies, length-pullOrder s l);
+        holes = omega (arith, pullable .holes, length-pullOrder s l);
         few = few;
         lacking = (aligned, page);
         enough = omega (arith, sum-pullOrder s l (λ r. r .size));
         among = λ x. omega arith;
       }
-    where
-      shorter : length l ≤ length (t .free)
-      shorter = omega (arith, length-ones l, length-ones (t .free), parts (λ r. 1))
 
   -- all regions are pulled from
-  pub pulling-all : lacks ≤ bytes (t .free) → Pulling lost hand none p lacks c [] (pullOrder s (t .free)) t
-  pulling-all enough = pulling-first [] (t .free) tt (all-members _ (t .free) (λ r m. m)) (λ f. omega arith) enough
+  pub pulling-all : Pullable t → lacks ≤ bytes (t .free) → Pulling lost hand none p lacks c [] (pullOrder s (t .free)) t
+  pulling-all pullable enough =
+      pulling-first [] (t .free) tt (all-members _ (t .free) (λ r m. m)) (λ f. omega arith)
+      (record { zombies = pullable .zombies; holes = pullable .holes }) enough
 
-  -- all but `r`, which stays
-  pub pulling-others : (r : FreeRegion) → Member r (t .free) → lacks ≤ bytes (withoutFree (from r) (t .free)) →
-      Pulling lost hand none p lacks c (r ∷ []) (pullOrder s (withoutFree (from r) (t .free))) t
-  pulling-others r m enough =
+  -- all but `r`, which stays: it need not be pullable
+  pub pulling-others : (r : FreeRegion) → Member r (t .free) → Pullable (withFree (withoutFree (from r) (t .free)) t) →
+      lacks ≤ bytes (withoutFree (from r) (t .free)) → Pulling lost hand none p lacks c (r ∷ []) (pullOrder s (withoutFree (from r) (t .free))) t
+  pulling-others r m pullable enough =
       pulling-first (r ∷ []) (withoutFree (from r) (t .free)) (m, tt) (all-without from _ (from r) (t .free) (all-members _ (t .free) (λ q k. k)))
-      (λ f. omega (arith, sum-without from f 0 r (t .free) (sound .freeRises) m)) enough
+      (λ f. omega (arith, sum-without from f 0 r (t .free) (sound .freeRises) m)) pullable enough

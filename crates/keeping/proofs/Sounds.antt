@@ -1,6 +1,6 @@
 -- How a change of one table keeps the tables sound: only the fields that speak of that table are to be shown anew, and the two equations by what the
 -- change moves between the table and what is in hand or bare. Assumes nothing.
-use mathlib.Core.Path.{_≡_}
+use mathlib.Core.Path.{_≡_, refl}
 use mathlib.Core.Logic.{inr, ⊎-elim}
 use mathlib.Core.List.{List, [], _∷_}
 use Prim.Native.Nat.{ℕ, _+_, _-_, _≤_, _<_, _%_, _^_}
@@ -19,7 +19,7 @@ use Rattle.tables.specs.declared.Page.{Page}
 use Rattle.tables.specs.InsertHole.{Apart}
 use Rattle.keeping.specs.Cover.{within, coverFree, coverLive, coverHoles, coverZombies, coverRoots, pagesAt, handlesAt, idsAt}
 use Rattle.keeping.specs.Sound.{Whole, WholeRange, Sound}
-use Rattle.keeping.proofs.Cover.{within-in, within-out}
+use Rattle.keeping.proofs.Cover.{within-in, within-out, within-none}
 
 -- What is in hand and is not put back is lost.
 pub sound-drop : {lost hand bare : ℕ → ℕ} {t : Tables} (gone : ℕ → ℕ) →
@@ -41,6 +41,33 @@ sound-drop gone s =
       pagesRise = s .pagesRise;
       rootsOnce = s .rootsOnce;
       covered = λ x. omega (arith, s .covered x);
+      pagesMatch = s .pagesMatch;
+      handlesOnce = s .handlesOnce;
+      idsOnce = s .idsOnce;
+      freeIds = s .freeIds;
+      zombieIds = s .zombieIds;
+    }
+
+-- What is lost of nothing is not lost.
+pub sound-undropped : {lost hand bare : ℕ → ℕ} {t : Tables} (gone : ℕ → ℕ) →
+    Sound (λ x. lost x + gone x) hand bare t → ((x : ℕ) → gone x ≡ 0) → Sound lost hand bare t
+sound-undropped gone s e =
+    record {
+      page = s .page;
+      va = s .va;
+      small = s .small;
+      roots = s .roots;
+      free = s .free;
+      live = s .live;
+      holes = s .holes;
+      zombies = s .zombies;
+      pages = s .pages;
+      freeRises = s .freeRises;
+      liveRises = s .liveRises;
+      holesApart = s .holesApart;
+      pagesRise = s .pagesRise;
+      rootsOnce = s .rootsOnce;
+      covered = λ x. omega (arith, s .covered x, e x);
       pagesMatch = s .pagesMatch;
       handlesOnce = s .handlesOnce;
       idsOnce = s .idsOnce;
@@ -268,3 +295,7 @@ module _ {lost hand bare : ℕ → ℕ} {t : Tables} (s : Sound lost hand bare t
 pub sound-as : {lost hand bare hand′ bare′ : ℕ → ℕ} {t : Tables} →
     Sound lost hand bare t → ((x : ℕ) → hand x ≡ hand′ x) → ((x : ℕ) → bare x ≡ bare′ x) → Sound lost hand′ bare′ t
 sound-as {t = t} s h b = sound-bare (sound-holes s (t .holes) (s .holes) (s .holesApart) (λ x. omega (arith, h x))) (λ x _. b x)
+
+-- No byte is dropped.
+pub sound-drop-none : {lost hand bare : ℕ → ℕ} {t : Tables} → Sound lost hand bare t → Sound (λ x. lost x + within 0 0 x) hand bare t
+sound-drop-none s = sound-drop (within 0 0) (sound-as s (λ x. omega (arith, within-none 0 x)) (λ x. refl))

@@ -32,7 +32,7 @@ use Rattle.tables.specs.declared.Outcome.the-variants.{
   BadConfiguration,
 }
 use Rattle.tables.specs.InsertHole.{Apart}
-use Rattle.keeping.specs.Cover.{coverFree, coverLive, coverHoles, coverZombies, coverRoots, pagesAt, handlesAt, idsAt}
+use Rattle.keeping.specs.Cover.{within, coverFree, coverLive, coverHoles, coverZombies, coverRoots, pagesAt, handlesAt, idsAt}
 
 -- no address
 abbrev pub none : ℕ → ℕ
@@ -85,6 +85,11 @@ pub record Ceilings (t : Tables) : Type 0 where
 pub record Kept (lost : ℕ → ℕ) (t : Tables) : Type 0 where
   pub sound : Sound lost none none t
   pub ceilings : Ceilings t
+
+-- The same, with one range more that is in no table: its start and its size, which is 0 for none.
+pub record KeptBut (lost : ℕ → ℕ) (t : Tables) : Type 0 where
+  pub dropped : ℕ × ℕ
+  pub kept : Kept (λ x. lost x + within (dropped .0) (dropped .1) x) t
 
 -- What a call that ends early leaves: 14 and 15 keep the ceilings; 17 leaves the pool as at entry; all others lose no address.
 abbrev pub Left : (ℕ → ℕ) → Outcome → Tables → Type 0

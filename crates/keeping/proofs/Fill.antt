@@ -1,0 +1,277 @@
+-- Fill. Where the free bytes fall short, the pages made become a region, with what it merges with; every other region is pulled whole, and what they
+-- give is put right behind. Where the free bytes suffice, they fill the range. Assumes nothing.
+use mathlib.Core.Path.{_≡_, refl}
+use mathlib.Core.Logic.{_⊎_, inl, inr, ⊎-elim}
+use mathlib.Core.List.{List, [], _∷_}
+use mathlib.Core.Option.{Option, some, none}
+use Prim.Native.Nat.{ℕ, _+_, _-_, _≤_, _<_, _%_}
+use native.Mathlib.Omega.{arith}
+use borrow.Author.Tests.{leb-true, leb-false, eqb-true, eqb-false}
+use lib.Dec.{leb, eqb}
+use lib.ListN.{length}
+use Rattle.lists.specs.Tests.{Member}
+use Rattle.lists.proofs.Members.{member-all, sum-without}
+use Rattle.lists.proofs.Sums.{sum-member}
+use Rattle.tables.specs.Values.{Tables, withFree}
+use Rattle.tables.specs.Steps.{_>>=_, _>>_, give}
+use Rattle.tables.specs.Driver.{must, access}
+use Rattle.tables.specs.InsertFree.{from, upto, bytes, withoutFree, insertFree}
+use Rattle.tables.specs.Pull.{pullOrder, pullIn}
+use Rattle.tables.specs.NewPages.{Room, insertNew}
+use Rattle.tables.specs.MakeRoom.{fill}
+use Rattle.tables.specs.declared.FreeRegion.{FreeRegion}
+use Rattle.keeping.specs.Cover.{within}
+use Rattle.keeping.specs.Sound as S
+use Rattle.keeping.specs.Sound.{Whole, WholeRange, Sound, Left}
+use Rattle.keeping.specs.Counts.{Few, Pullable, Known}
+use Rattle.keeping.specs.Holds.{Holds}
+use Rattle.keeping.proofs.Cover.{within-in, within-none, within-cut}
+use Rattle.keeping.proofs.PulledMultiples.{aligned-add, aligned-sub}
+use Rattle.keeping.proofs.Sounds.{sound-as, sound-drop, sound-drop-none}
+use Rattle.keeping.proofs.NewPages.{PagesTo, making-ceilings, made-sound, made-whole}
+use Rattle.keeping.proofs.InsertFree.{Inserting, Inserted, inserts-free-pullable}
+use Rattle.keeping.proofs.Pull.{Pulling}
+use Rattle.keeping.proofs.PullOrder.{pulling-all, pulling-others}
+use Rattle.keeping.proofs.PullIn.{PulledIn, pulls-in}
+use Rattle.keeping.proofs.Holds.{
+  holds-from,
+  holds-to,
+  holds-named,
+  holds-then,
+  holds-give,
+  holds-looked,
+  holds-cond,
+  holds-must,
+  drives-access,
+}
+
+-- The range taken is of whole pages, and `f` free bytes make up what is not missing.
+pub record Measured (p f : ℕ) (o : Room) : Type 0 where
+  pub start : Whole p (o .start)
+  pub size : Whole p (o .size)
+  pub pages : o .missing % p ≡ 0
+  pub rest : o .missing ≡ o .size - f
+
+-- What was missing is free as part of `r`; the rest of the range is in hand, and the other regions can be pulled.
+pub record Newly (lost : ℕ → ℕ) (p f : ℕ) (o : Room) (r : FreeRegion) (t : Tables) : Type 0 where
+  pub sound : Sound lost (within (o .start + o .missing) (o .size - o .missing)) S.none t
+  pub member : Member r (t .free)
+  pub stream : r .stream ≡ o .stream
+  pub least : (0 < o .missing) × (o .missing ≤ r .size)
+  pub few : Few 0 128 t
+  pub room : (r .size ≡ o .missing) ⊎ (length (t .free) + length (t .live) ≤ 127)
+  pub known : Known p (f + o .missing) t
+  pub ends : o .missing < o .size → upto r ≡ o .start + o .missing
+  pub pullable : Pullable (withFree (withoutFree (from r) (t .free)) t)
+
+-- `r` is free with at least `n` bytes on stream `s`, and a range of `d` bytes is dropped from all tables.
+pub record Filled (lost : ℕ → ℕ) (n s d : ℕ) (r : FreeRegion) (t : Tables) : Type 0 where
+  pub dropped : ℕ
+  pub sound : Sound (λ x. lost x + within dropped d x) S.none S.none t
+  pub member : Member r (t .free)
+  pub stream : r .stream ≡ s
+  pub size : Whole (t .page) n
+  pub most : n ≤ r .size
+  pub few : Few 0 128 t
+  pub room : (r .size ≡ n) ⊎ (length (t .free) + length (t .live) ≤ 127)
+
+module _ (lost : ℕ → ℕ) (p f : ℕ) (o : Room) where
+  -- all missing pages are made
+  abbrev pub Made : Tables → Type 0
+  Made = PagesTo lost p f 0 (o .start) (o .size) (o .start + o .missing)
+
+  abbrev pub Ready : Option FreeRegion → Tables → Type 0
+  Ready none t = (o .missing ≡ 0) × Made t
+  Ready (some r) t = Newly lost p f o r t
+
+  pub inserts-new : Holds Made (insertNew o) Ready (Left lost)
+  unfolding insertNew
+  inserts-new =
+      holds-cond (eqb (o .missing) 0) (λ e. holds-from (λ t w. (eqb-true (o .missing) 0 e, w)) (holds-give none))
+      (λ e. inserts (omega (arith, eqb-false (o .missing) 0 e)))
+    where
+      a : ℕ
+      a = o .start
+
+      m : ℕ
+      m = o .missing
+
+      rest : ℕ → ℕ
+      rest = within (a + m) (o .size - m)
+
+      inserting : 0 < m → (u : Tables) → Made u → Inserting lost rest S.none p f a m (u .free) u
+      inserting pos u w =
+          record {
+            sound = made-sound lost p f a (o .size) m u w;
+            range = made-whole lost p f a (o .size) m u w pos;
+            few = w .making .few;
+            known = w .making .known;
+            list = refl;
+          }
+
+      newly : 0 < m → (l : List FreeRegion) (r : FreeRegion) (t : Tables) → Inserted lost rest S.none p f a m (o .stream) l r t →
+          Pullable (withFree (withoutFree (from r) (t .free)) t) → Newly lost p f o r t
+      newly pos l r t i h =
+          record {
+            sound = i .sound;
+            member = i .member;
+            stream = i .stream;
+            least = (pos, i .size);
+            few = i .few;
+            room = i .room;
+            known = i .known;
+            ends = λ lt. i .ends (within-in (a + m) (o .size - m) (a + m) (omega arith) (omega arith));
+            pullable = h;
+          }
+
+      inserts : 0 < m →
+          Holds Made (must (access a m) >> (insertFree a m (o .stream) >>= λ r. give (some r))) Ready (Left lost)
+      inserts pos =
+          holds-then (λ _. Made) (holds-must (drives-access a m) (λ t w. tt) (λ c t w. making-ceilings (w .making)))
+          (λ _. holds-named (λ u w.
+          holds-from (λ t e. rw e (inserting pos u w, w .making .pullable))
+          (holds-then _ (inserts-free-pullable lost rest S.none p f a m (o .stream) (u .free))
+          (λ r. holds-from (λ t i. newly pos (u .free) r t (i .0) (i .1)) (holds-give (some r))))))
+
+-- The free bytes suffice: the whole range is filled from them, and nothing is dropped.
+module _ (lost : ℕ → ℕ) (p f : ℕ) (o : Room) (g : Measured p f o) where
+  abbrev end : ℕ
+  end = o .start + o .missing
+
+  filled-all : (r : FreeRegion) (t : Tables) → PulledIn lost S.none p end (o .size) (o .stream) [] r t → Filled lost (o .size) (o .stream) 0 r t
+  filled-all r t w =
+      let i = w .inserted in
+      record {
+        dropped = 0;
+        sound = sound-drop-none (i .sound);
+        member = i .member;
+        stream = i .stream;
+        size = rw (i .known .page) (g .size);
+        most = i .size;
+        few = i .few;
+        room = i .room;
+      }
+
+  pub fills-all : o .missing ≡ 0 → Holds (Made lost p f o) (fill o none) (Filled lost (o .size) (o .stream) 0) (Left lost)
+  unfolding fill
+  fills-all z =
+      holds-looked (λ u w.
+      holds-from (λ t e. rw e (pulling u w))
+      (holds-to filled-all (pulls-in lost S.none p (o .size) 127 [] (u .free) o (record { start = rw here (g .start); size = g .size }) (inl (omega arith)))))
+    where
+      here : end ≡ o .start
+      here = omega arith
+
+      hand : ℕ → ℕ
+      hand x = S.none x + within end (o .size) x
+
+      pulling : (u : Tables) → Made lost p f o u → Pulling lost hand S.none p (o .size) 127 [] (pullOrder (o .stream) (u .free)) u
+      pulling u w =
+          let made : end - o .start ≡ 0 = omega arith in
+          pulling-all lost hand p (o .stream) (o .size) 127 u
+          (sound-as (w .sound) (λ x. rw here (omega arith)) (λ x. rw made (within-none (o .start) x)))
+          (w .making .few) (w .making .known .page) (g .size .aligned) (w .making .pullable)
+          (omega (arith, w .making .known .free, g .rest))
+
+-- Pages were missing: as many bytes as the new region merged with need not be pulled, and are dropped at the end of the range.
+module _ (lost : ℕ → ℕ) (p f : ℕ) (o : Room) (g : Measured p f o) (r : FreeRegion) where
+  -- how much the new region merged with
+  abbrev extra : ℕ
+  extra = r .size - o .missing
+
+  -- the free regions have no more than was asked for
+  pub newly-most : (t : Tables) → Newly lost p f o r t → r .size ≤ o .size
+  newly-most t w = omega (arith, sum-member (λ q. q .size) r (t .free) (w .member), w .known .free, g .rest, w .least .0)
+
+  -- the region is enough
+  filled-at-once : (t : Tables) → Newly lost p f o r t → o .size ≤ r .size → Filled lost (o .size) (o .stream) extra r t
+  filled-at-once t w h =
+      let most = newly-most t w in
+      let e : o .size - o .missing ≡ extra = omega arith in
+      record {
+        dropped = o .start + o .missing;
+        sound = sound-drop (within (o .start + o .missing) extra) (sound-as (w .sound) (λ x. rw e (omega arith)) (λ x. refl));
+        member = w .member;
+        stream = w .stream;
+        size = rw (w .known .page) (g .size);
+        most = h;
+        few = w .few;
+        room = ⊎-elim (λ q. inl (omega (arith, g .rest))) (λ q. inr q) (w .room);
+      }
+
+  module _ (u : Tables) (w : Newly lost p f o r u) (short : r .size < o .size) where
+    abbrev place : ℕ
+    place = o .start + o .missing
+
+    abbrev lacks : ℕ
+    lacks = o .size - r .size
+
+    abbrev others : List FreeRegion
+    others = withoutFree (from r) (u .free)
+
+    -- what is left of the range
+    abbrev left : ℕ → ℕ
+    left = within (place + lacks) extra
+
+    aligned : lacks % p ≡ 0
+    aligned =
+        let whole = member-all (λ q. WholeRange (u .page) (from q) (q .size)) r (u .free) (w .member) (w .sound .free) in
+        aligned-sub p (o .size) (r .size) (omega arith) (g .size .aligned) (rw (w .known .page) at (whole .size .aligned))
+
+    -- the others have just what lacks
+    others-all : lacks ≡ bytes others
+    others-all = omega (arith, sum-without from (λ q. q .size) 0 r (u .free) (w .sound .freeRises) (w .member), w .known .free, g .rest, w .least .0)
+
+    others-some : 0 < length others
+    others-some = some others (omega (arith, others-all))
+      where
+        some : (l : List FreeRegion) → 0 < bytes l → 0 < length l
+        some [] h = h
+        some (q ∷ l) h = omega arith
+
+    pulling : Pulling lost (λ x. left x + within place lacks x) S.none p lacks 128 (r ∷ []) (pullOrder (o .stream) others) u
+    pulling =
+        let size : o .size - o .missing - lacks ≡ extra = omega (arith, w .least .1) in
+        pulling-others lost _ p (o .stream) lacks 128 u
+        (sound-as (w .sound) (λ x. rw size at (cut x)) (λ x. refl))
+        (w .few) (w .known .page) aligned r (w .member) (w .pullable) (omega (arith, others-all))
+      where
+        cut : (x : ℕ) → within place (o .size - o .missing) x ≡ within (place + lacks) (o .size - o .missing - lacks) x + within place lacks x
+        cut x = omega (arith, within-cut place (o .size - o .missing) lacks x (omega (arith, w .least .1)))
+
+    filled-behind : (q : FreeRegion) (t : Tables) → PulledIn lost left p place lacks (o .stream) (r ∷ []) q t →
+        Filled lost (o .size) (o .stream) extra q t
+    filled-behind q t v =
+        let i = v .inserted in
+        let grown : r .size + lacks ≤ q .size = i .grows r (v .kept .0) (w .stream) (w .ends (omega (arith, w .least .1))) in
+        record {
+          dropped = place + lacks;
+          sound = sound-drop left (sound-as (i .sound) (λ x. omega arith) (λ x. refl));
+          member = i .member;
+          stream = i .stream;
+          size = rw (i .known .page) (g .size);
+          most = omega arith;
+          few = i .few;
+          room = ⊎-elim (λ e. absurd (omega (arith, w .least))) (λ e. inr e) (i .room);
+        }
+
+    range : WholeRange p place lacks
+    range =
+        record {
+          start = record { positive = omega (arith, g .start .positive); aligned = aligned-add p (o .start) (o .missing) (g .start .aligned) (g .pages) };
+          size = record { positive = omega arith; aligned = aligned };
+        }
+
+    fills-behind : Holds (λ t. t ≡ u) (pullIn o lacks others) (Filled lost (o .size) (o .stream) extra) (Left lost)
+    fills-behind =
+        holds-from (λ t e. rw e pulling)
+        (holds-to filled-behind (pulls-in lost left p lacks 128 (r ∷ []) others o range (inr (others-all, (others-some, omega arith)))))
+
+  -- What is dropped is as much as the new region merged with.
+  pub fills-rest : Holds (Newly lost p f o r) (fill o (some r)) (Filled lost (o .size) (o .stream) extra) (Left lost)
+  unfolding fill
+  fills-rest =
+      holds-looked (λ u w.
+      holds-cond (leb (o .size) (r .size))
+      (λ e. holds-from (λ t q. rw q (filled-at-once u w (leb-true (o .size) (r .size) e))) (holds-give r))
+      (λ e. fills-behind u w (leb-false (o .size) (r .size) e)))
