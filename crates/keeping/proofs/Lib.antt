@@ -38,3 +38,4 @@ pub mod MakeRoom
 pub mod Malloc
 pub mod Open
 pub mod Kept
+pub mod Calls

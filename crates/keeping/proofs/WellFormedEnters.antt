@@ -1,6 +1,6 @@
 -- What an entry point knows after its refusals: the tables of an open pool that is well formed, read in order, are sound. What the roots hold and no
 -- table covers is lost; each range is inside the roots and no two overlap, so that what is covered is no more than the roots hold. Assumes nothing.
-use mathlib.Core.Path.{_≡_, ap, _∙_, sym}
+use mathlib.Core.Path.{_≡_, refl, ap, _∙_, sym}
 use mathlib.Core.Logic.{inr, ⊎-elim}
 use mathlib.Core.Bool.{true, _&&_, _||_}
 use mathlib.Core.List.{List, [], _∷_}
@@ -221,3 +221,13 @@ enters p s e =
       lost = λ x. rootsAt t x - tablesAt t x;
       kept = record { sound = clauses-sound t (clauses-hold t (c .1)) (in-order (tablesOf p)); ceilings = ceilings-read p (a .0) };
     }
+
+-- of the tables at entry: the page size is the pool's, and there are no more spans than it counts
+pub entry-page : (p : Pool) → atEntry p .page ≡ p .page
+unfolding tablesOf inOrder
+entry-page p = refl
+
+pub entry-spans : (p : Pool) → length (atEntry p .free) + length (atEntry p .live) ≤ p .free .count + p .live .count
+unfolding tablesOf inOrder freeOf liveOf
+entry-spans p =
+    omega (arith, length-inOrder (λ r. r .start .0) (p .free .count) (p .free .cells), length-inOrder (λ b. b .start .0) (p .live .count) (p .live .cells))

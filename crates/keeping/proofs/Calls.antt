@@ -1,0 +1,108 @@
+-- Well formed is kept by every call, whatever it is handed and whatever the driver answers. A refusal and 17 leave the pool as it came; else the
+-- tables at entry are kept, and so is what the steps leave of them. Assumes nothing.
+use mathlib.Core.Path.{_≡_, refl, sym}
+use mathlib.Core.Logic.{_⊎_, inl, inr}
+use mathlib.Core.Bool.{Bool, true, false, cond, _&&_, _||_, not}
+use mathlib.Core.List.{List, [], _∷_}
+use mathlib.Core.Option.{Option, some, none}
+use Prim.Native.Nat.{ℕ, _+_, _%_, _^_}
+use native.Mathlib.Omega.{arith}
+use borrow.Author.Tests.{eqb-true, eqb-false, leb-false, not-false}
+use lib.Dec.{ltb, leb, eqb}
+use Rattle.lists.specs.Tests.{Member, first}
+use Rattle.lists.proofs.Tests.{both, neither}
+use Rattle.tables.specs.Values.{Tables, poolOf, opened, closed, stopped, atEntry, closedPool, noTables}
+use Rattle.tables.specs.WellFormed.{ceilingsKept, sound, wellFormed}
+use Rattle.tables.specs.HandsBack.{Reply, refused, finished, admitted}
+use Rattle.tables.specs.Open.{pageSize, badConfiguration, openSteps, openFinished, openPool}
+use Rattle.tables.specs.Malloc.{mallocSteps, mallocBy, malloc}
+use Rattle.tables.specs.Free.{freeFound, free}
+use Rattle.tables.specs.declared.Outcome.the-variants.{PoolClosed, PoolStopped, NotWellFormed, ShortLog, IdsSpent, BadSize, SpansFull, BadConfiguration}
+use Rattle.tables.specs.declared.LiveBuffer.{LiveBuffer}
+use Rattle.tables.specs.declared.Pool.{Pool}
+use Rattle.keeping.specs.Sound as S
+use Rattle.keeping.specs.Sound.{Whole, Kept, KeptBut}
+use Rattle.keeping.proofs.Open.{configured}
+use Rattle.keeping.proofs.Kept.{PoolLeft, entered, halted, held, stopped-well-formed, malloc-leaves, free-leaves, open-leaves, left-well-formed}
+use Rattle.keeping.proofs.WellFormedEnters.{Entered, enters, entry-spans, entry-page}
+use Rattle.keeping.proofs.WellFormedLeaves.{well-formed}
+
+-- a well-formed pool that is not stopped is open
+is-open : (p : Pool) → wellFormed p ≡ true → eqb (p .state) stopped ≡ false → p .state ≡ opened
+unfolding wellFormed
+is-open p w e =
+    let b = both (ceilingsKept p) (eqb (p .state) stopped || (eqb (p .state) opened && sound (atEntry p))) w in
+    eqb-true (p .state) opened (both (eqb (p .state) opened) (sound (atEntry p)) (rw e at (b .1)) .0)
+
+-- 1 to 5 leave the pool as it came; whatever else a call of an open pool answers is to be shown
+admitted-keeps : (p : Pool) (log : ℕ) (r : Reply) → wellFormed p ≡ true → (p .state ≡ opened → wellFormed (r .pool) ≡ true) →
+    wellFormed (admitted p log r .pool) ≡ true
+unfolding admitted
+admitted-keeps p log r w f = go (eqb (p .state) closed) (eqb (p .state) stopped) refl (not (wellFormed p)) (ltb log 2048) (leb (2 ^ 62) (p .counter))
+  where
+    go : (a b : Bool) → eqb (p .state) stopped ≡ b → (c d e : Bool) →
+        wellFormed (cond a (refused p PoolClosed) (cond b (refused p PoolStopped) (cond c (refused p NotWellFormed) (cond d (refused p ShortLog) (cond e (refused p IdsSpent) r)))) .pool) ≡ true
+    go true b q c d e = w
+    go false true q c d e = w
+    go false false q true d e = w
+    go false false q false true e = w
+    go false false q false false true = w
+    go false false q false false false = f (is-open p w q)
+
+-- what is kept but for a dropped range is well formed
+but-well-formed : {lost : ℕ → ℕ} (t : Tables) → KeptBut lost t → wellFormed (poolOf opened t) ≡ true
+but-well-formed t k = well-formed _ t (k .kept)
+
+pub malloc-keeps : (p : Pool) (n s : ℕ) (xs : List ℕ) (log : ℕ) → wellFormed p ≡ true → wellFormed (malloc p n s xs log .pool) ≡ true
+unfolding mallocBy
+malloc-keeps p n s xs log w = admitted-keeps p log _ w (λ o. go (eqb n 0 || not (eqb (n % p .page) 0)) refl (leb 128 (p .free .count + p .live .count)) refl (enters p o w))
+  where
+    go : (a : Bool) → (eqb n 0 || not (eqb (n % p .page) 0)) ≡ a → (b : Bool) → leb 128 (p .free .count + p .live .count) ≡ b → Entered p →
+        wellFormed (cond a (refused p (BadSize n)) (cond b (refused p SpansFull) (finished p (mallocSteps n s xs 0 (atEntry p)))) .pool) ≡ true
+    go true e b q h = w
+    go false e true q h = w
+    go false e false q h =
+        let size = neither (eqb n 0) (not (eqb (n % p .page) 0)) e in
+        let zero : n ≡ 0 → ⊥ = eqb-false n 0 (size .0) in
+        let whole : Whole (p .page) n = record { positive = omega arith; aligned = eqb-true (n % p .page) 0 (not-false (eqb (n % p .page) 0) (size .1)) } in
+        left-well-formed but-well-formed w
+        (malloc-leaves (h .lost) p xs (atEntry p) n s
+        (h .kept, (rw (entry-page p) whole, omega (arith, entry-spans p, leb-false 128 (p .free .count + p .live .count) q))))
+
+-- a buffer that is found is one of them
+found : (a : ℕ) (b : LiveBuffer) (l : List LiveBuffer) → first (λ c. eqb (c .start .0) a) l ≡ some b → Member b l
+found a b [] e = let z : _≡_ {A = ℕ} 0 1 = cc in absurd (omega arith)
+found a b (c ∷ l) e = go (eqb (c .start .0) a) (found a b l) e
+  where
+    go : (t : Bool) → (first (λ c. eqb (c .start .0) a) l ≡ some b → Member b l) → cond t (some c) (first (λ c. eqb (c .start .0) a) l) ≡ some b →
+        Member b (c ∷ l)
+    go true f q = inl (let r : c ≡ b = cc in sym r)
+    go false f q = inr (f q)
+
+pub free-keeps : (p : Pool) (a : ℕ) (xs : List ℕ) (log : ℕ) → wellFormed p ≡ true → wellFormed (free p a xs log .pool) ≡ true
+unfolding free freeFound
+free-keeps p a xs log w = admitted-keeps p log _ w (λ o. go (first (λ b. eqb (b .start .0) a) (atEntry p .live)) refl (enters p o w))
+  where
+    go : (o : Option LiveBuffer) → first (λ b. eqb (b .start .0) a) (atEntry p .live) ≡ o → Entered p → wellFormed (freeFound p a xs o .pool) ≡ true
+    go none e h = w
+    go (some b) e h =
+        left-well-formed (λ t k. well-formed _ t k) w (free-leaves (h .lost) p xs (atEntry p) b (h .kept) (found a b (atEntry p .live) e))
+
+-- Opening leaves a closed pool or a well-formed one.
+pub open-keeps : (granularity override va initial stream : ℕ) (xs : List ℕ) (log : ℕ) →
+    let p = openPool granularity override va initial stream xs log .pool in (p ≡ closedPool) ⊎ (wellFormed p ≡ true)
+unfolding openPool
+open-keeps granularity override va initial stream xs log =
+    go (ltb log 2048) (badConfiguration granularity override va initial) refl
+  where
+    left : {q : Pool} → PoolLeft (Kept S.none) closedPool q → (q ≡ closedPool) ⊎ (wellFormed q ≡ true)
+    left entered = inl refl
+    left (halted t c) = inr (stopped-well-formed t c)
+    left (held t k) = inr (well-formed S.none t k)
+
+    go : (a b : Bool) → badConfiguration granularity override va initial ≡ b →
+        let p = cond a (refused closedPool ShortLog) (cond b (refused closedPool BadConfiguration) (openFinished (openSteps initial stream xs 0 (noTables (pageSize granularity override) va)))) .pool in
+        (p ≡ closedPool) ⊎ (wellFormed p ≡ true)
+    go true b e = inl refl
+    go false true e = inl refl
+    go false false e = left (open-leaves (pageSize granularity override) va initial stream (configured granularity override va initial e) xs)
