@@ -66,10 +66,10 @@ pub record Row : Type 0 where
   pub state : ℕ
   pub tables : Tables
 
--- The granularity is the page size, the initial stream 0, and the log has room; a malloc goes by `steps`. Whoever unfolds this unfolds all the rules.
+-- The granularity is the page size with no override, the initial stream 0, and the log has room; a malloc goes by `steps`. Whoever unfolds this unfolds all the rules.
 unfoldable pub answerBy : (ℕ → ℕ → Step Outcome) → Pool → Request → List ℕ → Reply
 unfolding _>>=_ freeOf packFree liveOf packLive holesOf packHoles zombiesOf packZombies pagesOf packPages rootsOf packRoots tablesOf inOrder poolOf ofPair lent reserve create map access unmap release recordEvent ask wait sync giveback insertHole insertFree smallestHole cutHole credible reserveRoot takeHole takeRange mapPage unmake rollBack created insertNew settle pullOne pullIn fill makeRoom clean cleanup takeOver orOther fit allowed ceilingsKept sound wellFormed finished admitted openSteps badConfiguration openFinished openPool roomRefused orRoom handOver mallocSteps mallocBy freeSteps freeFound free closeSteps closeFinished close
-answerBy steps p (opens page va initial) xs = openPool page page va initial 0 xs 2048
+answerBy steps p (opens page va initial) xs = openPool page 0 va initial 0 xs 2048
 answerBy steps p (mallocs n s) xs = mallocBy steps p n s xs 2048
 answerBy steps p (frees a) xs = free p a xs 2048
 answerBy steps p closes xs = close p xs 2048
