@@ -12,3 +12,5 @@ pub mod Sums
 pub mod Every
 pub mod SumLaws
 pub mod Pairs
+pub mod Least
+pub mod InOrder

@@ -3,3 +3,5 @@ pub mod Tests
 pub mod Order
 pub mod Walks
 pub mod Cells
+pub mod Scan
+pub mod InOrder

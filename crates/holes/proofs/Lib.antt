@@ -1,0 +1,6 @@
+pub mod Store
+pub mod Apart
+pub mod Glue
+pub mod Insert
+pub mod Cut
+pub mod Ordered
