@@ -14,3 +14,6 @@ pub mod SumLaws
 pub mod Pairs
 pub mod Least
 pub mod InOrder
+pub mod Found
+pub mod Pushed
+pub mod Ordered

@@ -5,3 +5,4 @@ pub mod Walks
 pub mod Cells
 pub mod Scan
 pub mod InOrder
+pub mod Ordered

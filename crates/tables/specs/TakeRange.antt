@@ -7,6 +7,7 @@ use lib.Dec.{leb, eqb}
 use Rattle.lists.specs.Tests.{filter, every}
 use Rattle.lists.specs.Order.{least}
 use Rattle.words.specs.Answers.{valueOf, failed}
+use Rattle.words.specs.declared.Address.{Address}
 use Rattle.tables.specs.Values.{Tables, hole}
 use Rattle.tables.specs.Steps.{Step, _>>=_, _>>_, give, endIf, tables, changeHoles, addRoot}
 use Rattle.tables.specs.Driver.{reserve}
@@ -28,8 +29,11 @@ abbrev pub apart : ℕ → ℕ → ℕ → Bool
 apart va a b = leb (a + va) b || leb (b + va) a
 
 -- Incredible: a base that is 0, unaligned, ending past 2^63 or overlapping a root.
+abbrev pub credibleFor : ℕ → ℕ → ℕ → List Address → Bool
+credibleFor page va b roots = not (eqb b 0) && (eqb (b % page) 0 && (leb b (2 ^ 63 - va) && every (λ a. apart va b (a .0)) roots))
+
 unfoldable pub credible : ℕ → Tables → Bool
-credible b t = not (eqb b 0) && (eqb (b % t .page) 0 && (leb b (2 ^ 63 - t .va) && every (λ a. apart (t .va) b (a .0)) (t .roots)))
+credible b t = credibleFor (t .page) (t .va) b (t .roots)
 
 -- Reserve a root and insert its rest as a hole. 12: reserve failed, va_size, page size.
 unfoldable pub reserveRoot : ℕ → Step ℕ
