@@ -1,15 +1,16 @@
 -- Well formed is kept by every call, whatever it is handed and whatever the driver answers. A refusal and 17 leave the pool as it came; else the
 -- tables at entry are kept, and so is what the steps leave of them. Assumes nothing.
-use mathlib.Core.Path.{_≡_, refl, sym}
+use mathlib.Core.Path.{_≡_, refl}
 use mathlib.Core.Logic.{_⊎_, inl, inr}
 use mathlib.Core.Bool.{Bool, true, false, cond, _&&_, _||_, not}
-use mathlib.Core.List.{List, [], _∷_}
+use mathlib.Core.List.{List}
 use mathlib.Core.Option.{Option, some, none}
 use Prim.Native.Nat.{ℕ, _+_, _%_, _^_}
 use native.Mathlib.Omega.{arith}
 use borrow.Author.Tests.{eqb-true, eqb-false, leb-false, not-false}
 use lib.Dec.{ltb, leb, eqb}
-use Rattle.lists.specs.Tests.{Member, first}
+use Rattle.lists.specs.Tests.{first}
+use Rattle.lists.proofs.Members.{member-first}
 use Rattle.lists.proofs.Tests.{both, neither}
 use Rattle.tables.specs.Values.{Tables, poolOf, opened, closed, stopped, atEntry, closedPool, noTables}
 use Rattle.tables.specs.WellFormed.{ceilingsKept, sound, wellFormed}
@@ -69,16 +70,6 @@ malloc-keeps p n s xs log w = admitted-keeps p log _ w (λ o. go (eqb n 0 || not
         (malloc-leaves (h .lost) p xs (atEntry p) n s
         (h .kept, (rw (entry-page p) whole, omega (arith, entry-spans p, leb-false 128 (p .free .count + p .live .count) q))))
 
--- a buffer that is found is one of them
-found : (a : ℕ) (b : LiveBuffer) (l : List LiveBuffer) → first (λ c. eqb (c .start .0) a) l ≡ some b → Member b l
-found a b [] e = let z : _≡_ {A = ℕ} 0 1 = cc in absurd (omega arith)
-found a b (c ∷ l) e = go (eqb (c .start .0) a) (found a b l) e
-  where
-    go : (t : Bool) → (first (λ c. eqb (c .start .0) a) l ≡ some b → Member b l) → cond t (some c) (first (λ c. eqb (c .start .0) a) l) ≡ some b →
-        Member b (c ∷ l)
-    go true f q = inl (let r : c ≡ b = cc in sym r)
-    go false f q = inr (f q)
-
 pub free-keeps : (p : Pool) (a : ℕ) (xs : List ℕ) (log : ℕ) → wellFormed p ≡ true → wellFormed (free p a xs log .pool) ≡ true
 unfolding free freeFound
 free-keeps p a xs log w = admitted-keeps p log _ w (λ o. go (first (λ b. eqb (b .start .0) a) (atEntry p .live)) refl (enters p o w))
@@ -86,7 +77,7 @@ free-keeps p a xs log w = admitted-keeps p log _ w (λ o. go (first (λ b. eqb (
     go : (o : Option LiveBuffer) → first (λ b. eqb (b .start .0) a) (atEntry p .live) ≡ o → Entered p → wellFormed (freeFound p a xs o .pool) ≡ true
     go none e h = w
     go (some b) e h =
-        left-well-formed (λ t k. well-formed _ t k) w (free-leaves (h .lost) p xs (atEntry p) b (h .kept) (found a b (atEntry p .live) e))
+        left-well-formed (λ t k. well-formed _ t k) w (free-leaves (h .lost) p xs (atEntry p) b (h .kept) (member-first (λ c. eqb (c .start .0) a) b (atEntry p .live) e))
 
 -- Opening leaves a closed pool or a well-formed one.
 pub open-keeps : (granularity override va initial stream : ℕ) (xs : List ℕ) (log : ℕ) →

@@ -14,19 +14,8 @@ use Rattle.keeping.specs.Sound.{none, WholeRange, Sound, Ceilings, Kept,
 use Rattle.keeping.specs.Counts.{Few, Known}
 use Rattle.keeping.specs.Holds.{Holds}
 use Rattle.keeping.proofs.Holes.{length-hole}
-use Rattle.keeping.proofs.Hands.{sound-zombies, sound-hole}
-use Rattle.keeping.proofs.Holds.{
-  holds-then,
-  holds-looked,
-  holds-change,
-  holds-cond,
-  holds-try,
-  holds-isComplete,
-  holds-give,
-  holds-from,
-  holds-to,
-  drives-unmap,
-}
+use Rattle.keeping.proofs.Sounds.{sound-zombies, sound-hole}
+use Rattle.keeping.proofs.Holds.{holds-then, holds-looked, holds-change, holds-cond, holds-try, holds-isComplete, holds-give, holds-from, drives-unmap}
 
 module _ (lost : ℕ → ℕ) (p f c : ℕ) where
   abbrev Cleaned : Tables → Type 0
@@ -53,9 +42,9 @@ module _ (lost : ℕ → ℕ) (p f c : ℕ) where
       let len = length-swapOut i (t .zombies) in
       record {
         sound =
-            sound-zombies (within (z .start .0) (z .size)) s (swapOut i (t .zombies)) (all-swapOut _ (t .zombies) i d (s .zombies) (omega arith))
-            (all-swapOut _ (t .zombies) i d (s .zombieIds) (omega arith))
-            (λ x. omega (arith, sum-swapOut (λ y. within (y .start .0) (y .size) x) (t .zombies) i d (omega arith)));
+            sound-zombies s (swapOut i (t .zombies)) (all-swapOut _ (t .zombies) i d (s .zombies) (omega arith))
+            (λ x. omega (arith, sum-swapOut (λ y. within (y .start .0) (y .size) x) (t .zombies) i d (omega arith)))
+            (all-swapOut _ (t .zombies) i d (s .zombieIds) (omega arith));
         range = all-at _ (t .zombies) i d (s .zombies) (omega arith);
         ceilings = record { pages = k .pages; spans = k .spans; zombies = omega arith; holes = omega arith; roots = k .roots };
         few = record { pages = w .pages; spans = w .spans; zombies = omega arith; holes = omega arith; roots = w .roots };
@@ -69,7 +58,7 @@ module _ (lost : ℕ → ℕ) (p f c : ℕ) where
       let k = o .ceilings in
       let w = o .few in (
         record {
-          sound = sound-hole none (o .sound) a n (λ x. omega arith) (λ _. o .range);
+          sound = sound-hole (o .sound) a n (λ x. omega arith) (λ _. o .range);
           ceilings =
               record { pages = k .pages; spans = k .spans; zombies = k .zombies; holes = omega (arith, length-hole a n (t .holes)); roots = k .roots };
         },

@@ -1,18 +1,23 @@
--- What counts say of a list: no key stands in it twice where each counts at most once, no two of its ranges have an address in common where each
--- address is covered at most once, and two rising lists in which every number counts the same are the same. Assumes nothing.
-use mathlib.Core.Path.{_≡_, refl, ap}
+-- What counts say of a list: a key that counts 0 is no element's, no key stands in it twice where each counts at most once, no two of its ranges have an
+-- address in common where each address is covered at most once, and two rising lists in which every number counts the same are the same. Assumes nothing.
+use mathlib.Core.Path.{_≡_, refl, ap, sym, _∙_}
 use mathlib.Core.Logic.{_⊎_, inl, inr, ⊎-elim}
+use mathlib.Core.Bool.{Bool, true, false, not, false≢true}
 use mathlib.Core.List.{List, [], _∷_}
 use Prim.Native.Nat.{ℕ, _+_, _≤_, _<_, min, max}
 use native.Mathlib.Omega.{arith}
-use Rattle.lists.specs.Tests.{All}
-use Rattle.lists.specs.Order.{Ascends}
+use borrow.Author.Tests.{eqb-false}
+use lib.Dec.{eqb}
+use Rattle.lists.specs.Tests.{All, any, filter}
+use Rattle.lists.specs.Order.{Ascends, Rises}
 use Rattle.lists.specs.Walks.{sum}
-use Rattle.lists.proofs.Tests.{cases-lt, cases-eq}
-use Rattle.lists.proofs.Every.{Pairs, all-implies, pairs-implies, pairs-both, pairs-all}
-use Rattle.lists.proofs.Pairs.{ascends-pairs}
-use Rattle.lists.proofs.SumLaws.{sum-none, all-sum}
+use Rattle.lists.proofs.Tests.{any-none, cases-lt, cases-eq, all-implies}
+use Rattle.lists.proofs.Every.{Pairs}
+use Rattle.lists.proofs.Pairs.{pairs-implies, pairs-both, pairs-all, ascends-pairs, rises-pairs}
+use Rattle.lists.proofs.Walks.{sum-filter, sum-none}
+use Rattle.lists.proofs.Filters.{all-passed}
 use Rattle.keeping.specs.Cover.{within, equal}
+use Rattle.keeping.specs.Sound.{WholeRange}
 use Rattle.keeping.proofs.Cover.{within-in, within-out, within-le, equal-same, equal-other, equal-le}
 
 module _ {A : Type 0} (key : A → ℕ) where
@@ -20,18 +25,17 @@ module _ {A : Type 0} (key : A → ℕ) where
   abbrev pub keysAt : List A → ℕ → ℕ
   keysAt l x = sum (λ a. equal (key a) x) l
 
+  pub none-counted : (x : ℕ) (l : List A) → keysAt l x ≡ 0 → All (λ a. key a ≡ x → ⊥) l
+  none-counted x [] e = tt
+  none-counted x (a ∷ l) e = (λ q. omega (arith, equal-same x, rw q at e), none-counted x l (omega arith))
+
   pub once-differ : (l : List A) → ((x : ℕ) → keysAt l x ≤ 1) → Pairs (λ a b. key a ≡ key b → ⊥) l
   once-differ [] c = tt
   once-differ (a ∷ l) c = (
-    all-implies (λ b. equal (key b) (key a) ≤ keysAt l (key a)) (λ b. key a ≡ key b → ⊥)
-        twice l (all-sum (λ b. equal (key b) (key a)) l),
+    all-implies (λ b. key b ≡ key a → ⊥) (λ b. key a ≡ key b → ⊥) (λ b p e. p (sym e)) l
+        (none-counted (key a) l (omega (arith, c (key a), equal-same (key a)))),
     once-differ l (λ x. omega (arith, c x)),
   )
-    where
-      twice : (b : A) → equal (key b) (key a) ≤ keysAt l (key a) → key a ≡ key b → ⊥
-      twice b p e =
-          let r : equal (key b) (key a) ≡ 1 = rw e (equal-same (key b)) in
-          omega (arith, c (key a), equal-same (key a))
 
   none-at : (x : ℕ) (l : List A) → All (λ a. x ≡ key a → ⊥) l → keysAt l x ≡ 0
   none-at x l a =
@@ -43,6 +47,27 @@ module _ {A : Type 0} (key : A → ℕ) where
     where
       same : key a ≡ x → keysAt (a ∷ l) x ≤ 1
       same e = omega (arith, equal-le (key a) x, none-at x l (rw e at (r .0)))
+
+  pub none-passes : (x : ℕ) (l : List A) → any (λ a. eqb (key a) x) l ≡ false → keysAt l x ≡ 0
+  none-passes x l e =
+      sum-none (λ a. equal (key a) x) l
+      (all-implies (λ a. eqb (key a) x ≡ false) _ (λ a q. equal-other (key a) x (eqb-false (key a) x q)) l (any-none (λ a. eqb (key a) x) l e))
+
+  -- keys that rise are each there once
+  pub rises-once : (b x : ℕ) (l : List A) → Rises key b l → keysAt l x ≤ 1
+  rises-once b x l r =
+      differ-once l (pairs-implies (λ a b. key a < key b) (λ a b. key a ≡ key b → ⊥) (λ a b p e. omega arith) l (rises-pairs key b l r)) x
+
+  -- a filter by key keeps none of a key that does not pass, and all of one that does
+  pub count-dropped : (p : ℕ → Bool) (x : ℕ) (l : List A) → p x ≡ false → keysAt (filter (λ a. p (key a)) l) x ≡ 0
+  count-dropped p x l e =
+      sum-none (λ a. equal (key a) x) (filter (λ a. p (key a)) l)
+      (all-implies (λ a. p (key a) ≡ true) _ (λ a q. equal-other (key a) x (λ s. false≢true (sym e ∙ (rw s at q)))) (filter (λ a. p (key a)) l)
+      (all-passed (λ a. p (key a)) l))
+
+  pub count-kept : (p : ℕ → Bool) (x : ℕ) (l : List A) → p x ≡ true → keysAt (filter (λ a. p (key a)) l) x ≡ keysAt l x
+  count-kept p x l e =
+      omega (arith, sum-filter (λ a. equal (key a) x) (λ a. p (key a)) l, count-dropped (λ y. not (p y)) x l (rw e))
 
 -- a number below all of a list
 none-below : (x y : ℕ) (m : List ℕ) → x < y → All (λ z. y < z) m → keysAt (λ a. a) (y ∷ m) x ≡ 0
@@ -75,21 +100,22 @@ module _ {A : Type 0} (lo size : A → ℕ) where
   abbrev pub coverAt : List A → ℕ → ℕ
   coverAt l x = sum (λ a. within (lo a) (size a) x) l
 
+  -- what covers no address that the list covers overlaps none of it
+  pub once-clear : (a n : ℕ) (l : List A) → ((x : ℕ) → within a n x + coverAt l x ≤ 1) → All (λ b. min (a + n) (lo b + size b) ≤ max a (lo b)) l
+  once-clear a n [] c = tt
+  once-clear a n (b ∷ l) c = (
+    ⊎-elim (λ p. absurd (overlap p)) (λ p. p) (cases-lt (max a (lo b)) (min (a + n) (lo b + size b))),
+    once-clear a n l (λ x. omega (arith, c x)),
+  )
+    where
+      overlap : max a (lo b) < min (a + n) (lo b + size b) → ⊥
+      overlap p =
+          let x = max a (lo b) in
+          omega (arith, c x, within-in a n x (omega arith) (omega arith), within-in (lo b) (size b) x (omega arith) (omega arith))
+
   pub once-parted : (l : List A) → ((x : ℕ) → coverAt l x ≤ 1) → Pairs (Parted lo size) l
   once-parted [] c = tt
-  once-parted (a ∷ l) c = (rest l (λ x. c x), once-parted l (λ x. omega (arith, c x)))
-    where
-      overlap : (b : A) → ((x : ℕ) → within (lo a) (size a) x + within (lo b) (size b) x ≤ 1) → max (lo a) (lo b) < min (lo a + size a) (lo b + size b) → ⊥
-      overlap b d p =
-          let x = max (lo a) (lo b) in
-          omega (arith, d x, within-in (lo a) (size a) x (omega arith) (omega arith), within-in (lo b) (size b) x (omega arith) (omega arith))
-
-      rest : (m : List A) → ((x : ℕ) → within (lo a) (size a) x + coverAt m x ≤ 1) → All (Parted lo size a) m
-      rest [] d = tt
-      rest (b ∷ m) d = (
-        ⊎-elim (λ p. absurd (overlap b (λ x. omega (arith, d x)) p)) (λ p. p) (cases-lt (max (lo a) (lo b)) (min (lo a + size a) (lo b + size b))),
-        rest m (λ x. omega (arith, d x)),
-      )
+  once-parted (a ∷ l) c = (once-clear (lo a) (size a) l (λ x. c x), once-parted l (λ x. omega (arith, c x)))
 
   pub parted-once : (l : List A) → Pairs (Parted lo size) l → (x : ℕ) → coverAt l x ≤ 1
   parted-once [] r x = omega arith
@@ -121,3 +147,17 @@ module _ {A : Type 0} (lo size : A → ℕ) where
   pub all-cover : (f : ℕ → ℕ) (l : List A) → ((x : ℕ) → coverAt l x ≤ f x) → All (λ a. (x : ℕ) → within (lo a) (size a) x ≤ f x) l
   all-cover f [] h = tt
   all-cover f (a ∷ l) h = ((λ x. omega (arith, h x)), all-cover f l (λ x. omega (arith, h x)))
+
+  -- none starts at an address that none covers
+  pub none-starts : (p x : ℕ) (l : List A) → All (λ a. WholeRange p (lo a) (size a)) l → coverAt l x ≡ 0 → All (λ a. lo a ≡ x → ⊥) l
+  none-starts p x [] w e = tt
+  none-starts p x (a ∷ l) w e = (
+    λ s. omega (arith, within-in (lo a) (size a) x (omega arith) (omega (arith, w .0 .size .positive))),
+    none-starts p x l (w .1) (omega arith),
+  )
+
+  -- none covers an address past the end of all
+  pub cover-past : (m x : ℕ) (l : List A) → All (λ a. lo a + size a ≤ m) l → m ≤ x → coverAt l x ≡ 0
+  cover-past m x l a h =
+      sum-none (λ a. within (lo a) (size a) x) l
+      (all-implies (λ a. lo a + size a ≤ m) _ (λ a p. within-out (lo a) (size a) x (inr (omega arith))) l a)

@@ -51,3 +51,7 @@ equal-other a b h = omega arith
 pub equal-le : (a b : ℕ) → equal a b ≤ 1
 unfolding equal
 equal-le a b = omega arith
+
+pub equal-positive : (a b : ℕ) → 0 < equal a b → a ≡ b
+unfolding equal
+equal-positive a b h = omega arith

@@ -10,8 +10,8 @@ use borrow.Author.Tests.{leb-true, leb-false, eqb-true, eqb-false}
 use lib.Dec.{leb, eqb}
 use lib.ListN.{length}
 use Rattle.lists.specs.Tests.{Member}
-use Rattle.lists.proofs.Members.{member-all, sum-without}
-use Rattle.lists.proofs.Sums.{sum-member}
+use Rattle.lists.proofs.Walks.{sum-some}
+use Rattle.lists.proofs.Members.{member-all, sum-without, sum-member}
 use Rattle.tables.specs.Values.{Tables, withFree}
 use Rattle.tables.specs.Steps.{_>>=_, _>>_, give}
 use Rattle.tables.specs.Driver.{must, access}
@@ -26,24 +26,14 @@ use Rattle.keeping.specs.Sound.{Whole, WholeRange, Sound, Left}
 use Rattle.keeping.specs.Counts.{Few, Pullable, Known}
 use Rattle.keeping.specs.Holds.{Holds}
 use Rattle.keeping.proofs.Cover.{within-in, within-none, within-cut}
-use Rattle.keeping.proofs.PulledMultiples.{aligned-add, aligned-sub}
+use Rattle.keeping.proofs.Whole.{aligned-sub, whole-past}
 use Rattle.keeping.proofs.Sounds.{sound-as, sound-drop, sound-drop-none}
 use Rattle.keeping.proofs.NewPages.{PagesTo, making-ceilings, made-sound, made-whole}
 use Rattle.keeping.proofs.InsertFree.{Inserting, Inserted, inserts-free-pullable}
 use Rattle.keeping.proofs.Pull.{Pulling}
 use Rattle.keeping.proofs.PullOrder.{pulling-all, pulling-others}
 use Rattle.keeping.proofs.PullIn.{PulledIn, pulls-in}
-use Rattle.keeping.proofs.Holds.{
-  holds-from,
-  holds-to,
-  holds-named,
-  holds-then,
-  holds-give,
-  holds-looked,
-  holds-cond,
-  holds-must,
-  drives-access,
-}
+use Rattle.keeping.proofs.Holds.{holds-from, holds-to, holds-named, holds-then, holds-give, holds-looked, holds-cond, holds-must, drives-access}
 
 -- The range taken is of whole pages, and `f` free bytes make up what is not missing.
 pub record Measured (p f : ℕ) (o : Room) : Type 0 where
@@ -223,11 +213,7 @@ module _ (lost : ℕ → ℕ) (p f : ℕ) (o : Room) (g : Measured p f o) (r : F
     others-all = omega (arith, sum-without from (λ q. q .size) 0 r (u .free) (w .sound .freeRises) (w .member), w .known .free, g .rest, w .least .0)
 
     others-some : 0 < length others
-    others-some = some others (omega (arith, others-all))
-      where
-        some : (l : List FreeRegion) → 0 < bytes l → 0 < length l
-        some [] h = h
-        some (q ∷ l) h = omega arith
+    others-some = sum-some (λ q. q .size) others (omega (arith, others-all))
 
     pulling : Pulling lost (λ x. left x + within place lacks x) S.none p lacks 128 (r ∷ []) (pullOrder (o .stream) others) u
     pulling =
@@ -258,7 +244,7 @@ module _ (lost : ℕ → ℕ) (p f : ℕ) (o : Room) (g : Measured p f o) (r : F
     range : WholeRange p place lacks
     range =
         record {
-          start = record { positive = omega (arith, g .start .positive); aligned = aligned-add p (o .start) (o .missing) (g .start .aligned) (g .pages) };
+          start = whole-past (o .missing) (g .start) (g .pages);
           size = record { positive = omega arith; aligned = aligned };
         }
 

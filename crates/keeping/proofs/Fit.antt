@@ -12,8 +12,10 @@ use lib.Dec.{leb, eqb}
 use lib.ListN.{length, length-map}
 use Rattle.lists.specs.Tests.{All, Member}
 use Rattle.lists.specs.Walks.{sum}
-use Rattle.lists.proofs.Maps.{all-to, all-map, member-map, sum-map, rises-map}
-use Rattle.lists.proofs.Members.{member-all, member-filter, member-least}
+use Rattle.lists.proofs.Walks.{sum-equal}
+use Rattle.lists.proofs.Maps.{all-map, member-map, sum-map, rises-map}
+use Rattle.lists.proofs.Tests.{all-implies}
+use Rattle.lists.proofs.Members.{member-all, all-members, member-filter, member-least}
 use Rattle.tables.specs.Values.{Tables, withFree}
 use Rattle.tables.specs.InsertFree.{from}
 use Rattle.tables.specs.Pull.{ownOf}
@@ -26,7 +28,8 @@ use Rattle.keeping.specs.Sound.{WholeRange, Sound, Kept, Left}
 use Rattle.keeping.specs.Counts.{Few, Known}
 use Rattle.keeping.specs.Holds.{Holds}
 use Rattle.keeping.proofs.Holds.{holds-from, holds-then, holds-give, holds-looked, holds-change, holds-isComplete}
-use Rattle.keeping.proofs.Spans.{Spans, sound-spans, few-spans, few-ceilings, ceilings-few}
+use Rattle.keeping.proofs.Sounds.{Spans, sound-spans}
+use Rattle.keeping.proofs.Counts.{few-spans, few-ceilings, ceilings-few}
 
 -- what stands through fit: the page size is `p`, `f` bytes are free, and there are at most `c` spans
 abbrev pub Fitting : (ℕ → ℕ) → ℕ → ℕ → ℕ → Tables → Type 0
@@ -50,8 +53,8 @@ asks-all {P} short (r ∷ l) =
     (λ done. holds-from (λ t h. (h .0, complete c done (h .1))) (holds-give (cond c (r ∷ done) done))))
   where
     complete : (c : Bool) (done : List FreeRegion) → All (λ q. Member q l) done → All (λ q. Member q (r ∷ l)) (cond c (r ∷ done) done)
-    complete true done a = (inl refl, all-to (λ q. Member q l) (λ q. Member q (r ∷ l)) done (λ q m. inr m) a)
-    complete false done a = all-to (λ q. Member q l) (λ q. Member q (r ∷ l)) done (λ q m. inr m) a
+    complete true done a = (inl refl, all-implies (λ q. Member q l) (λ q. Member q (r ∷ l)) (λ q m. inr m) done a)
+    complete false done a = all-implies (λ q. Member q l) (λ q. Member q (r ∷ l)) (λ q m. inr m) done a
 
 -- What becomes of each free region where the one at `r` becomes stream `s`'s.
 module _ (s : ℕ) (r : FreeRegion) where
@@ -67,10 +70,11 @@ module _ (s : ℕ) (r : FreeRegion) where
       go false = h
 
   sum-taken : (g : FreeRegion → ℕ) (l : List FreeRegion) → ((q : FreeRegion) → g (onStream s q) ≡ g q) → sum g (map taken l) ≡ sum g l
-  sum-taken g l e = sum-map taken g g l (λ q. taken-keeps (λ z. g z ≡ g q) q refl (e q))
+  sum-taken g l e =
+      sum-map taken g l ∙ sum-equal (λ q. g (taken q)) g l (all-members _ l (λ q m. taken-keeps (λ z. g z ≡ g q) q refl (e q)))
 
   all-taken : (P : FreeRegion → Type 0) (l : List FreeRegion) → ((q : FreeRegion) → P q → P (onStream s q)) → All P l → All P (map taken l)
-  all-taken P l f a = all-map taken P l (all-to P (λ q. P (taken q)) l (λ q h. taken-keeps P q h (f q h)) a)
+  all-taken P l f a = all-map taken P l (all-implies P (λ q. P (taken q)) (λ q h. taken-keeps P q h (f q h)) l a)
 
   taken-spans : {lost hand bare : ℕ → ℕ} {t : Tables} → Sound lost hand bare t → Spans hand bare hand bare (map taken (t .free)) (t .live) t
   taken-spans {t = t} h =
@@ -80,8 +84,8 @@ module _ (s : ℕ) (r : FreeRegion) where
         freeRises = rises-map taken from from 0 (t .free) (λ q. taken-keeps (λ z. from z ≡ from q) q refl refl) (h .freeRises);
         liveRises = h .liveRises;
         covered = λ x. rw (sum-taken (λ q. within (from q) (q .size) x) (t .free) (λ q. refl));
-        bared = λ x. rw (sum-taken (λ q. within (from q) (q .size) x) (t .free) (λ q. refl));
-        ids = λ i. omega (arith, sum-taken (λ q. equal (q .id .0) i) (t .free) (λ q. refl));
+        bared = λ x _. rw (sum-taken (λ q. within (from q) (q .size) x) (t .free) (λ q. refl));
+        ids = λ i. omega (arith, h .idsOnce i, sum-taken (λ q. equal (q .id .0) i) (t .free) (λ q. refl));
         freeIds = all-taken (λ q. q .id .0 < t .counter) (t .free) (λ q w. w) (h .freeIds);
       }
 
@@ -93,7 +97,7 @@ module _ (s : ℕ) (r : FreeRegion) where
       let e : length (map taken (t .free)) ≡ length (t .free) = length-map (t .free) taken in (
         record {
           sound = sound-spans (k .sound) (taken-spans (k .sound));
-          ceilings = few-ceilings (few-spans (map taken (t .free)) (t .live) (ceilings-few (k .ceilings)) (omega (arith, k .ceilings .spans)));
+          ceilings = few-ceilings {c = 128} (omega arith) (few-spans (map taken (t .free)) (t .live) (ceilings-few (k .ceilings)) (omega (arith, k .ceilings .spans)));
         },
         (
           few-spans (map taken (t .free)) (t .live) w (omega (arith, w .spans)),

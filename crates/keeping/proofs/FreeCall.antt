@@ -1,5 +1,4 @@
--- Free: a live buffer that is taken out leaves its range in hand and its pages bare, from where insert free
--- puts both back. Assumes nothing.
+-- Free: a live buffer that is taken out leaves its range in hand and its pages bare, from where insert free puts both back. Assumes nothing.
 use mathlib.Core.Path.{_≡_, refl}
 use mathlib.Core.List.{List}
 use Prim.Native.Nat.{ℕ, _+_}
@@ -16,7 +15,8 @@ use Rattle.keeping.specs.Cover.{within, coverLive}
 use Rattle.keeping.specs.Sound.{none, WholeRange, Kept, Left}
 use Rattle.keeping.specs.Holds.{Holds}
 use Rattle.keeping.proofs.Holds.{holds-from, holds-named, holds-then, holds-give, holds-change}
-use Rattle.keeping.proofs.Spans.{Spans, sound-spans, few-spans, few-ceilings, ceilings-few}
+use Rattle.keeping.proofs.Sounds.{Spans, sound-spans}
+use Rattle.keeping.proofs.Counts.{few-spans, few-ceilings, ceilings-few}
 use Rattle.keeping.proofs.InsertFree.{Inserting, Inserted, inserts-free}
 
 -- the live buffers but `b`
@@ -39,8 +39,8 @@ module _ {lost : ℕ → ℕ} (b : LiveBuffer) (t : Tables) (k : Kept lost t) (m
         freeRises = k .sound .freeRises;
         liveRises = rises-without (λ c. c .start .0) (b .start .0) 0 (t .live) (k .sound .liveRises);
         covered = λ x. omega (arith, covers x);
-        bared = λ x. omega (arith, covers x);
-        ids = λ i. omega arith;
+        bared = λ x _. omega (arith, covers x);
+        ids = k .sound .idsOnce;
         freeIds = k .sound .freeIds;
       }
 
@@ -63,4 +63,4 @@ frees lost b =
     (holds-change (λ t. withLive (others b t) t) (λ t e. rw e (inserting b u (h .0) (h .1))))
     (λ _. holds-then (Inserted lost none none (u .page) (bytes (u .free)) (b .start .0) (b .size) (b .stream) (u .free))
     (inserts-free lost none none (u .page) (bytes (u .free)) (b .start .0) (b .size) (b .stream) (u .free))
-    (λ r. holds-from (λ t i. record { sound = i .sound; ceilings = few-ceilings (i .few) }) (holds-give (Freed (b .size) (b .stream))))))
+    (λ r. holds-from (λ t i. record { sound = i .sound; ceilings = few-ceilings (omega arith) (i .few) }) (holds-give (Freed (b .size) (b .stream))))))

@@ -8,8 +8,6 @@ use native.Mathlib.Omega.{arith}
 use lib.ListN.{length}
 use Rattle.lists.specs.Tests.{All, Member}
 use Rattle.lists.specs.Order.{put}
-use Rattle.lists.proofs.Tests.{cases-lt}
-use Rattle.lists.proofs.Maps.{all-to}
 use Rattle.lists.proofs.Order.{length-put, sum-put, all-put}
 use Rattle.lists.proofs.Members.{member-all, all-without, rises-without, sum-without, length-without, rises-put}
 use Rattle.tables.specs.Values.{Tables, buffer, withFree, withLive}
@@ -23,11 +21,11 @@ use Rattle.keeping.specs.Cover.{within, equal, coverFree, coverLive}
 use Rattle.keeping.specs.Sound.{none, Whole, WholeRange, Sound, Kept}
 use Rattle.keeping.specs.Counts.{Few}
 use Rattle.keeping.specs.Holds.{Holds}
-use Rattle.keeping.proofs.Cover.{within-in}
-use Rattle.keeping.proofs.Multiples.{whole-add, whole-sub}
-use Rattle.keeping.proofs.Spans.{Spans, sound-spans, few-spans, few-ceilings}
-use Rattle.keeping.proofs.Rest.{cover-putRest, ids-putRest, length-putRest-none, length-putRest, all-putRest, rises-putRest}
-use Rattle.keeping.proofs.Alone.{Alone, alone, none-starts}
+use Rattle.keeping.proofs.Whole.{whole-upper}
+use Rattle.keeping.proofs.Counts.{few-spans, few-ceilings}
+use Rattle.keeping.proofs.Rest.{cover-putRest, ids-putRest, length-putNone, length-putRest, all-putRest, rises-putRest}
+use Rattle.keeping.proofs.Counting.{none-starts}
+use Rattle.keeping.proofs.Sounds.{sound-alone, Spans, sound-spans}
 
 pub record Handing (lost : ℕ → ℕ) (n : ℕ) (r : FreeRegion) (t : Tables) : Type 0 where
   pub sound : Sound lost none none t
@@ -52,41 +50,29 @@ module _ {lost : ℕ → ℕ} (n s : ℕ) (r : FreeRegion) (t : Tables) (h : Han
   range : WholeRange (t .page) (from r) (r .size)
   range = member-all (λ q. WholeRange (t .page) (q .start .0) (q .size)) r (t .free) (h .member) (h .sound .free)
 
-  alone-at : (x : ℕ) → from r ≤ x → x < from r + r .size → Alone lost none r t x
-  alone-at x p q = alone r x (h .sound) (h .member) (within-in (from r) (r .size) x p q)
-
-  longer : (r .size ≡ n → ⊥) → n < r .size
-  longer e = ⊎-elim (λ p. p) (λ p. absurd (e (omega (arith, h .most)))) (cases-lt n (r .size))
-
   others-whole : All (λ q. WholeRange (t .page) (from q) (q .size)) (others r t)
   others-whole = all-without from (λ q. WholeRange (t .page) (from q) (q .size)) (from r) (t .free) (h .sound .free)
 
-  rest-whole : (r .size ≡ n → ⊥) → WholeRange (t .page) (from r + n) (r .size - n)
-  rest-whole e =
-      record {
-        start = whole-add (t .page) (from r) n (range .start) (h .size);
-        size = whole-sub (t .page) (r .size) n (range .size) (h .size) (longer e);
-      }
+  rest-whole : n < r .size → WholeRange (t .page) (from r + n) (r .size - n)
+  rest-whole e = whole-upper n range (h .size .aligned) e
 
   -- no other region starts where the rest does
-  rest-new : (r .size ≡ n → ⊥) → All (λ q. from q ≡ from r + n → ⊥) (others r t)
+  rest-new : n < r .size → All (λ q. from q ≡ from r + n → ⊥) (others r t)
   rest-new e =
-      none-starts from (λ q. q .size) (from r + n) (others r t)
-      (all-to (λ q. WholeRange (t .page) (from q) (q .size)) (λ q. 0 < q .size) (others r t) (λ q w. w .size .positive) others-whole)
-      (alone-at (from r + n) (omega arith) (omega (arith, longer e)) .free)
+      none-starts from (λ q. q .size) (t .page) (from r + n) (others r t) others-whole
+      (sound-alone (h .sound) r (h .member) (from r + n) (omega arith) (omega arith) .0)
 
   -- no buffer starts where the region does
   buffer-new : All (λ b. b .start .0 ≡ from r → ⊥) (t .live)
   buffer-new =
-      none-starts (λ b. b .start .0) (λ b. b .size) (from r) (t .live)
-      (all-to (λ b. WholeRange (t .page) (b .start .0) (b .size)) (λ b. 0 < b .size) (t .live) (λ b w. w .size .positive) (h .sound .live))
-      (alone-at (from r) (omega arith) (omega (arith, range .size .positive)) .live)
+      none-starts (λ b. b .start .0) (λ b. b .size) (t .page) (from r) (t .live) (h .sound .live)
+      (sound-alone (h .sound) r (h .member) (from r) (omega arith) (omega (arith, range .size .positive)) .1)
 
   covers : (x : ℕ) → coverFree (regions n r t) x + coverLive (buffers n s r t) x ≡ coverFree (t .free) x + coverLive (t .live) x
   covers x =
       omega (
         arith,
-        cover-putRest n r (others r t) x (h .most),
+        cover-putRest n r (others r t) (h .most) x,
         sum-without from (λ q. within (q .start .0) (q .size) x) 0 r (t .free) (h .sound .freeRises) (h .member),
         sum-put (λ b. b .start .0) (λ b. within (b .start .0) (b .size) x) (buffer (from r) n s) (t .live),
       )
@@ -94,25 +80,26 @@ module _ {lost : ℕ → ℕ} (n s : ℕ) (r : FreeRegion) (t : Tables) (h : Han
   hand-spans : Spans none none none none (regions n r t) (buffers n s r t) t
   hand-spans =
       record {
-        free = all-putRest n r (others r t) (λ q. WholeRange (t .page) (from q) (q .size)) rest-whole others-whole;
+        free = all-putRest n r (others r t) (h .most) (λ q. WholeRange (t .page) (from q) (q .size)) rest-whole others-whole;
         live =
             all-put (λ b. b .start .0) (λ b. WholeRange (t .page) (b .start .0) (b .size)) (buffer (from r) n s) (t .live)
             (record { start = range .start; size = h .size })
             (h .sound .live);
         freeRises =
-            rises-putRest n r (others r t) 0 (omega (arith, range .start .positive)) rest-new
+            rises-putRest n r (others r t) (h .most) 0 (omega (arith, range .start .positive)) rest-new
             (rises-without from (from r) 0 (t .free) (h .sound .freeRises));
         liveRises = rises-put (λ b. b .start .0) 0 (buffer (from r) n s) (t .live) (range .start .positive) buffer-new (h .sound .liveRises);
         covered = λ x. omega (arith, covers x);
-        bared = λ x. omega (arith, covers x);
+        bared = λ x _. omega (arith, covers x);
         ids = λ i.
             omega (
               arith,
-              ids-putRest n r (others r t) i,
+              h .sound .idsOnce i,
+              ids-putRest n r (others r t) (h .most) i,
               sum-without from (λ q. equal (q .id .0) i) 0 r (t .free) (h .sound .freeRises) (h .member),
             );
         freeIds =
-            all-putRest n r (others r t) (λ q. q .id .0 < t .counter)
+            all-putRest n r (others r t) (h .most) (λ q. q .id .0 < t .counter)
             (λ _. member-all (λ q. q .id .0 < t .counter) r (t .free) (h .member) (h .sound .freeIds))
             (all-without from (λ q. q .id .0 < t .counter) (from r) (t .free) (h .sound .freeIds));
       }
@@ -122,15 +109,15 @@ module _ {lost : ℕ → ℕ} (n s : ℕ) (r : FreeRegion) (t : Tables) (h : Han
       let fewer = length-without from 0 r (t .free) (h .sound .freeRises) (h .member) in
       let more = length-put (λ b. b .start .0) (buffer (from r) n s) (t .live) in
       ⊎-elim
-      (λ e. omega (arith, fewer, more, length-putRest-none n r (others r t) e, h .few .spans))
-      (λ e. omega (arith, fewer, more, length-putRest n r (others r t)))
+      (λ e. omega (arith, fewer, more, length-putNone n r (others r t) (h .most) e, h .few .spans))
+      (λ e. omega (arith, fewer, more, length-putRest n r (others r t) (h .most)))
       (h .room)
 
   hand-kept : Kept lost (withLive (buffers n s r t) (withFree (regions n r t) t))
   hand-kept =
       record {
         sound = sound-spans (h .sound) hand-spans;
-        ceilings = few-ceilings (few-spans (regions n r t) (buffers n s r t) (h .few) spans);
+        ceilings = few-ceilings (omega arith) (few-spans (regions n r t) (buffers n s r t) (h .few) spans);
       }
 
 -- Handing over never ends the call.

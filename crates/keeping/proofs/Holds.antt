@@ -1,5 +1,5 @@
 -- The rules of the triple: one for each way that a step is made. Assumes nothing.
-use mathlib.Core.Path.{_≡_, refl}
+use mathlib.Core.Path.{_≡_, refl, ap}
 use mathlib.Core.Bool.{Bool, true, false, cond}
 use mathlib.Core.List.{List, [], _∷_}
 use Prim.Native.Nat.{ℕ, _+_}
@@ -88,6 +88,10 @@ module _ {E : Outcome → Tables → Type 0} where
 
   pub holds-change : (f : Tables → Tables) {P : Tables → Type 0} {Q : Unit {0} → Tables → Type 0} → ((t : Tables) → P t → Q tt (f t)) → Holds P (change f) Q E
   holds-change f h = record { leaves = λ xs k t p. h t p }
+
+  -- of tables that are known
+  pub holds-known : (f : Tables → Tables) (u : Tables) → Holds (λ t. t ≡ u) (change f) (λ _ t. t ≡ f u) E
+  holds-known f u = holds-change f (λ t e. ap f e)
 
   pub holds-cond : {A : Type 0} (b : Bool) {m n : Step A} {P : Tables → Type 0} {Q : A → Tables → Type 0} →
       (b ≡ true → Holds P m Q E) → (b ≡ false → Holds P n Q E) → Holds P (cond b m n) Q E

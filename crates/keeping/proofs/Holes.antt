@@ -1,4 +1,5 @@
--- Insert hole, and taking the low part of a hole: what the holes cover then, that they stay in order and of whole pages, and how many they are. Assumes nothing.
+-- Insert hole, and taking the low part of a hole: what the holes cover then, that they stay in order and of whole pages, and how many they are.
+-- Assumes nothing.
 use mathlib.Core.Path.{_≡_, refl, ap}
 use mathlib.Core.Logic.{_⊎_, inl, inr, ⊎-elim}
 use mathlib.Core.Bool.{Bool, true, false, cond}
@@ -10,19 +11,22 @@ use lib.Dec.{ltb, leb, eqb}
 use lib.ListN.{length}
 use borrow.Author.Tests.{eq-eqb, ne-eqb, eqb-true, eqb-false, lt-ltb, le-ltb, leb-true}
 use Rattle.lists.specs.Tests.{All, Member, filter}
+use Rattle.lists.specs.Order.{Rises}
 use Rattle.lists.proofs.Tests.{cases-lt, cases-eq}
-use Rattle.lists.proofs.Members.{member-filter, member-least}
+use Rattle.lists.proofs.Order.{rises-below}
+use Rattle.lists.proofs.Members.{member-above, member-filter, member-least}
 use Rattle.tables.specs.Values.{hole}
 use Rattle.tables.specs.InsertHole.{from, upto, glue, insertRange, insertHole, Apart}
 use Rattle.tables.specs.TakeRange.{smallestHole, cutHole}
 use Rattle.tables.specs.declared.Hole.{Hole}
 use Rattle.keeping.specs.Cover.{within, coverHoles}
 use Rattle.keeping.specs.Sound.{Whole, WholeRange}
-use Rattle.keeping.proofs.Cover.{within-join, within-cut, within-in, within-out, within-le}
+use Rattle.keeping.proofs.Cover.{within-join, within-cut, within-in, within-out}
+use Rattle.keeping.proofs.Counting.{once-clear}
 use Rattle.keeping.proofs.Whole.{whole-add, whole-upper}
 
 -- the range from `a` of size `n` and `h` have no address in common
-abbrev pub Clear : ℕ → ℕ → Hole → Type 0
+abbrev Clear : ℕ → ℕ → Hole → Type 0
 Clear a n h = min (a + n) (upto h) ≤ max a (from h)
 
 cover-glue : (h : Hole) (l : List Hole) (x : ℕ) → coverHoles (glue h l) x ≡ within (from h) (h .size) x + coverHoles l x
@@ -34,7 +38,7 @@ cover-glue h (k ∷ l) x =
     (cases-eq (upto h) (from k))
 
 -- An inserted range adds itself to what is covered, whatever the list.
-pub cover-insert : (a n : ℕ) (l : List Hole) (x : ℕ) → coverHoles (insertRange a n l) x ≡ within a n x + coverHoles l x
+cover-insert : (a n : ℕ) (l : List Hole) (x : ℕ) → coverHoles (insertRange a n l) x ≡ within a n x + coverHoles l x
 cover-insert a n [] x = refl
 cover-insert a n (h ∷ l) x =
     ⊎-elim
@@ -71,7 +75,7 @@ ahead-insert a n b m (h ∷ l) w p q r c =
     weaken b m (h ∷ l) w = (omega arith, w .1)
 
 -- A range that is clear of a list keeps it in order, disjoint, and with no two touching.
-pub apart-insert : (a n b m : ℕ) (l : List Hole) → Apart b m l → b < a → 0 < n → a + n ≤ m → All (Clear a n) l → Apart b m (insertRange a n l)
+apart-insert : (a n b m : ℕ) (l : List Hole) → Apart b m l → b < a → 0 < n → a + n ≤ m → All (Clear a n) l → Apart b m (insertRange a n l)
 apart-insert a n b m l w p q r c = back (insertRange a n l) (ahead-insert a n (suc b) m l (forth l w) p q r c)
   where
     forth : (l : List Hole) → Apart b m l → Ahead (suc b) m l
@@ -81,33 +85,6 @@ apart-insert a n b m l w p q r c = back (insertRange a n l) (ahead-insert a n (s
     back : (l : List Hole) → Ahead (suc b) m l → Apart b m l
     back [] w = omega arith
     back (h ∷ l) w = w
-
--- Whatever covers no address twice is clear: disjointness is read off the counts.
-pub clear-of : (a n b m : ℕ) (l : List Hole) → 0 < n → Apart b m l → ((x : ℕ) → within a n x + coverHoles l x ≤ 1) → All (Clear a n) l
-clear-of a n b m [] q w c = tt
-clear-of a n b m (h ∷ l) q w c = (
-  ⊎-elim (λ p. absurd (overlap p)) (λ p. p) (cases-lt (max a (from h)) (min (a + n) (upto h))),
-  clear-of a n (upto h) m l q (w .1 .1) (λ x. omega (arith, c x)),
-)
-  where
-    overlap : max a (from h) < min (a + n) (upto h) → ⊥
-    overlap p =
-        let x = max a (from h) in
-        omega (arith, c x, within-in a n x (omega arith) (omega arith), within-in (from h) (h .size) x (omega arith) (omega arith))
-
--- A list in order covers no address twice, and none below its bound.
-pub cover-low : (b m : ℕ) (l : List Hole) (x : ℕ) → Apart b m l → x ≤ b → coverHoles l x ≡ 0
-cover-low b m [] x w p = refl
-cover-low b m (h ∷ l) x w p =
-    omega (arith, within-out (from h) (h .size) x (inl (omega arith)), cover-low (upto h) m l x (w .1 .1) (omega arith))
-
-pub cover-once : (b m : ℕ) (l : List Hole) (x : ℕ) → Apart b m l → coverHoles l x ≤ 1
-cover-once b m [] x w = omega arith
-cover-once b m (h ∷ l) x w =
-    ⊎-elim
-    (λ p. omega (arith, within-le (from h) (h .size) x, cover-low (upto h) m l x (w .1 .1) (omega arith)))
-    (λ p. omega (arith, within-out (from h) (h .size) x (inr p), cover-once (upto h) m l x (w .1 .1)))
-    (cases-lt x (upto h))
 
 -- Insert hole, the whole rule: what it covers, that the list stays in order, and by how much it grows.
 pub cover-hole : (a n : ℕ) (l : List Hole) (x : ℕ) → coverHoles (insertHole a n l) x ≡ within a n x + coverHoles l x
@@ -126,7 +103,7 @@ unfolding insertHole
 apart-hole a n b m l w p r c =
     ⊎-elim
     (λ e. rw (eq-eqb n 0 e) w)
-    (λ e. rw (ne-eqb n 0 e) (apart-insert a n b m l w p (omega arith) r (clear-of a n b m l (omega arith) w c)))
+    (λ e. rw (ne-eqb n 0 e) (apart-insert a n b m l w p (omega arith) r (once-clear from (λ h. h .size) a n l c)))
     (cases-eq n 0)
 
 -- size 0 is ignored
@@ -257,7 +234,7 @@ unfolding insertHole
 length-hole-touch a n b m l w c i =
     ⊎-elim
     (λ e. rw (eq-eqb n 0 e) (omega arith))
-    (λ e. rw (ne-eqb n 0 e) (length-touch a n b m l (omega arith) w (clear-of a n b m l (omega arith) w c) i))
+    (λ e. rw (ne-eqb n 0 e) (length-touch a n b m l (omega arith) w (once-clear from (λ h. h .size) a n l c) i))
     (cases-eq n 0)
 
 -- The smallest sufficient hole is a hole, and suffices.
@@ -267,9 +244,10 @@ member-smallestHole n h l e =
     let m = member-filter (λ k. leb n (k .size)) h l (member-least (λ k. k .size) h (filter (λ k. leb n (k .size)) l) e) in
     (m .0, leb-true n (h .size) (m .1))
 
-member-above : (b m : ℕ) (h : Hole) (l : List Hole) → Apart b m l → Member h l → b < from h
-member-above b m h (k ∷ l) w (inl e) = rw e (w .0)
-member-above b m h (k ∷ l) w (inr i) = omega (arith, member-above (upto k) m h l (w .1 .1) i)
+-- the holes rise by their starts
+pub apart-rises : (b m : ℕ) (l : List Hole) → Apart b m l → Rises from b l
+apart-rises b m [] w = tt
+apart-rises b m (h ∷ l) w = (w .0, rises-below from (from h) (upto h) l (omega arith) (apart-rises (upto h) m l (w .1 .1)))
 
 -- the cut hole covers what it covered, less its low part
 pub cover-cutHole : (n b m : ℕ) (h : Hole) (l : List Hole) (x : ℕ) → Apart b m l → Member h l → n ≤ h .size →
@@ -282,7 +260,7 @@ cover-cutHole n b m h (k ∷ l) x w (inl e) p = rw (← e, eq-eqb (from h) (from
     go true q = omega (arith, ap (λ s. within (from h) s x) (eqb-true (h .size) n q))
     go false q = omega (arith, within-cut (from h) (h .size) n x p)
 cover-cutHole n b m h (k ∷ l) x w (inr i) p =
-    let apart : from k ≡ from h → ⊥ = λ e. omega (arith, member-above (upto k) m h l (w .1 .1) i) in
+    let apart : from k ≡ from h → ⊥ = λ e. omega (arith, member-above from (upto k) h l (apart-rises (upto k) m l (w .1 .1)) i) in
     rw (ne-eqb (from k) (from h) apart) (omega (arith, cover-cutHole n (upto k) m h l x (w .1 .1) i p))
 
 apart-below : (c b m : ℕ) (l : List Hole) → c ≤ b → Apart b m l → Apart c m l
@@ -298,9 +276,9 @@ apart-cutHole n b m h (k ∷ l) w (inl e) p = rw (← e, eq-eqb (from h) (from h
     go v false q =
         let ne : h .size ≡ n → ⊥ = eqb-false (h .size) n q in
         let up : from h + n + (h .size - n) ≡ upto h = omega arith in
-        (omega arith, (⊎-elim (λ e. absurd (ne e)) (λ e. omega arith) (cases-eq (h .size) n), rw up (v .1 .1)))
+        (omega arith, (omega arith, rw up (v .1 .1)))
 apart-cutHole n b m h (k ∷ l) w (inr i) p =
-    let apart : from k ≡ from h → ⊥ = λ e. omega (arith, member-above (upto k) m h l (w .1 .1) i) in
+    let apart : from k ≡ from h → ⊥ = λ e. omega (arith, member-above from (upto k) h l (apart-rises (upto k) m l (w .1 .1)) i) in
     rw (ne-eqb (from k) (from h) apart) (w .0, (w .1 .0, apart-cutHole n (upto k) m h l (w .1 .1) i p))
 
 pub all-cutHole : (p n b m : ℕ) (h : Hole) (l : List Hole) → Apart b m l → Member h l → n ≤ h .size → Whole p n → AllWhole p l → AllWhole p (cutHole n (from h) l)
@@ -309,9 +287,9 @@ all-cutHole p n b m h (k ∷ l) w (inl e) q v c = rw (← e, eq-eqb (from h) (fr
   where
     go : AllWhole p (h ∷ l) → (t : Bool) → eqb (h .size) n ≡ t → AllWhole p (cond t l (hole (from h + n) (h .size - n) ∷ l))
     go d true r = d .1
-    go d false r = (whole-upper n (d .0) v (⊎-elim (λ e. absurd (eqb-false (h .size) n r e)) (λ e. omega arith) (cases-eq (h .size) n)), d .1)
+    go d false r = (whole-upper n (d .0) (v .aligned) (omega (arith, eqb-false (h .size) n r)), d .1)
 all-cutHole p n b m h (k ∷ l) w (inr i) q v c =
-    let apart : from k ≡ from h → ⊥ = λ e. omega (arith, member-above (upto k) m h l (w .1 .1) i) in
+    let apart : from k ≡ from h → ⊥ = λ e. omega (arith, member-above from (upto k) h l (apart-rises (upto k) m l (w .1 .1)) i) in
     rw (ne-eqb (from k) (from h) apart) (c .0, all-cutHole p n (upto k) m h l (w .1 .1) i q v (c .1))
 
 pub length-cutHole : (n a : ℕ) (l : List Hole) → length (cutHole n a l) ≤ length l

@@ -10,24 +10,24 @@ use lib.ListN.{length}
 use Rattle.lists.specs.Tests.{All, Member, filter}
 use Rattle.lists.specs.Order.{without, Rises}
 use Rattle.lists.specs.Walks.{sum}
-use Rattle.lists.proofs.Tests.{cases-eq, all-filter}
+use Rattle.lists.proofs.Tests.{cases-eq, all-filter, all-implies}
 use Rattle.lists.proofs.Order.{sum-put, length-put, all-put}
-use Rattle.lists.proofs.Walks.{sum-filter}
-use Rattle.lists.proofs.Members.{member-filter, filter-member, member-put, put-member, rises-put, length-without}
-use Rattle.lists.proofs.Filters.{all-to, all-passed, rises-filter, length-filters, sum-member, sum-zero}
+use Rattle.lists.proofs.Walks.{sum-filter, sum-none}
+use Rattle.lists.proofs.Members.{member-filter, filter-member, member-put, put-member, rises-put, length-without, sum-member}
+use Rattle.lists.proofs.Filters.{all-passed, rises-filter, length-filters}
 use Rattle.tables.specs.Values.{Tables, withFree, withCounter}
-use Rattle.tables.specs.Steps.{change}
 use Rattle.tables.specs.InsertFree.{from, upto, bytes, putFree, withoutFree, merges, merged, insertFree}
 use Rattle.tables.specs.declared.FreeRegion.{FreeRegion}
-use Rattle.tables.specs.declared.Outcome.{Outcome}
 use Rattle.keeping.specs.Cover.{within, equal, coverFree, idsAt}
 use Rattle.keeping.specs.Sound.{WholeRange, Sound, Ceilings, Left}
 use Rattle.keeping.specs.Counts.{Few, Pullable, Known}
 use Rattle.keeping.specs.Holds.{Holds}
-use Rattle.keeping.proofs.Holds.{holds-from, holds-to, holds-then, holds-give, holds-looked, holds-change, holds-must, drives-record}
+use Rattle.keeping.proofs.Holds.{holds-from, holds-to, holds-then, holds-give, holds-looked, holds-known, holds-must, drives-record}
 use Rattle.keeping.proofs.Cover.{within-in, equal-other, equal-le}
-use Rattle.keeping.proofs.WholeSums.{whole-least, whole-bytes}
-use Rattle.keeping.proofs.Regions.{Touches, merges-touches, merges-previous, Beside, beside, cover-merged, ends-merged, starts-apart}
+use Rattle.keeping.proofs.Sounds.{sound-free, sound-counter}
+use Rattle.keeping.proofs.Whole.{whole-least, whole-bytes}
+use Rattle.keeping.proofs.Counting.{none-starts}
+use Rattle.keeping.proofs.Regions.{Touches, merges-touches, merges-previous, Beside, beside, cover-merged, ends-merged}
 
 -- before: the range is in hand, and its pages are active beside what free and live say
 pub record Inserting (lost hand bare : ℕ → ℕ) (p f a n : ℕ) (l : List FreeRegion) (t : Tables) : Type 0 where
@@ -107,7 +107,7 @@ module _ (lost hand bare : ℕ → ℕ) (p f a n s : ℕ) (l : List FreeRegion) 
       (rises-filter from (merges a n s) 0 (u .free) (i .sound .freeRises))
       whole-near
       (λ x. omega (arith, once x, parts (λ r. within (r .start .0) (r .size) x)))
-      (all-to (λ q. merges a n s q ≡ true) (Touches a n) (merges-touches a n s) (near a n s u) (all-passed (merges a n s) (u .free)))
+      (all-implies (λ q. merges a n s q ≡ true) (Touches a n) (merges-touches a n s) (near a n s u) (all-passed (merges a n s) (u .free)))
 
   -- the range moves from the hand into the free table
   cover-done : (x : ℕ) → coverFree (done a n s u .free) x ≡ within a n x + coverFree (u .free) x
@@ -119,7 +119,7 @@ module _ (lost hand bare : ℕ → ℕ) (p f a n s : ℕ) (l : List FreeRegion) 
   new-apart =
       let x = from (new a n s u) in
       let g : FreeRegion → ℕ = λ r. within (r .start .0) (r .size) x in
-      starts-apart (u .page) x (rest a n s u) whole-rest
+      none-starts from (λ q. q .size) (u .page) x (rest a n s u) whole-rest
       (omega (arith, once x, parts g, cover-merged a n (near a n s u) besides x, within-in x (new a n s u .size) x (omega arith) (omega (arith, whole-new .size .positive))))
 
   rises-done : Rises from 0 (done a n s u .free)
@@ -140,39 +140,21 @@ module _ (lost hand bare : ℕ → ℕ) (p f a n s : ℕ) (l : List FreeRegion) 
 
       fresh : idsAt (rest a n s u) (u .counter) ≡ 0
       fresh =
-          sum-zero (λ r. equal (r .id .0) (u .counter)) (rest a n s u)
+          sum-none (λ r. equal (r .id .0) (u .counter)) (rest a n s u)
           (all-filter (λ r. equal (r .id .0) (u .counter) ≡ 0) (λ q. not (merges a n s q)) (u .free)
-          (all-to (λ r. r .id .0 < u .counter) (λ r. equal (r .id .0) (u .counter) ≡ 0) (λ r h. equal-other (r .id .0) (u .counter) (λ e. omega arith)) (u .free) (i .sound .freeIds)))
-
-  spent : (k : ℕ) → k < u .counter → k < u .counter + 1
-  spent k h = omega arith
+          (all-implies (λ r. r .id .0 < u .counter) (λ r. equal (r .id .0) (u .counter) ≡ 0) (λ r h. equal-other (r .id .0) (u .counter) (λ e. omega arith)) (u .free) (i .sound .freeIds)))
 
   sound-done : Sound lost hand bare (done a n s u)
-  sound-done = record {
-    page = i .sound .page;
-    va = i .sound .va;
-    small = i .sound .small;
-    roots = i .sound .roots;
-    free = all-put from (WholeIn u) (new a n s u) (rest a n s u) whole-new whole-rest;
-    live = i .sound .live;
-    holes = i .sound .holes;
-    zombies = i .sound .zombies;
-    pages = i .sound .pages;
-    freeRises = rises-done;
-    liveRises = i .sound .liveRises;
-    holesApart = i .sound .holesApart;
-    pagesRise = i .sound .pagesRise;
-    rootsOnce = i .sound .rootsOnce;
-    covered = λ x. omega (arith, i .sound .covered x, cover-done x);
-    pagesMatch = λ x h. omega (arith, i .sound .pagesMatch x h, cover-done x);
-    handlesOnce = i .sound .handlesOnce;
-    idsOnce = ids-done;
-    freeIds =
-        all-put from (λ r. r .id .0 < u .counter + 1) (new a n s u) (rest a n s u) (omega arith)
-        (all-filter (λ r. r .id .0 < u .counter + 1) (λ q. not (merges a n s q)) (u .free)
-        (all-to (λ r. r .id .0 < u .counter) (λ r. r .id .0 < u .counter + 1) (λ r. spent (r .id .0)) (u .free) (i .sound .freeIds)));
-    zombieIds = all-to (λ z. z .id .0 < u .counter) (λ z. z .id .0 < u .counter + 1) (λ z. spent (z .id .0)) (u .zombies) (i .sound .zombieIds);
-  }
+  sound-done =
+      sound-free (sound-counter (i .sound) (u .counter + 1) (omega arith)) (putFree (new a n s u) (rest a n s u))
+      (all-put from (WholeIn u) (new a n s u) (rest a n s u) whole-new whole-rest)
+      rises-done
+      (λ x. omega (arith, cover-done x))
+      (λ x h. omega (arith, cover-done x))
+      ids-done
+      (all-put from (λ r. r .id .0 < u .counter + 1) (new a n s u) (rest a n s u) (omega arith)
+      (all-filter (λ r. r .id .0 < u .counter + 1) (λ q. not (merges a n s q)) (u .free)
+      (all-implies (λ r. r .id .0 < u .counter) (λ r. r .id .0 < u .counter + 1) (λ r h. omega arith) (u .free) (i .sound .freeIds))))
 
   length-rest : length (near a n s u) + length (rest a n s u) ≡ length (u .free)
   length-rest = length-filters (merges a n s) (u .free)
@@ -200,7 +182,7 @@ module _ (lost hand bare : ℕ → ℕ) (p f a n s : ℕ) (l : List FreeRegion) 
   ends-done : hand (a + n) ≡ 1 → upto (new a n s u) ≡ a + n
   ends-done h =
       ends-merged a n (near a n s u) besides
-      (starts-apart (u .page) (a + n) (near a n s u) whole-near (omega (arith, once (a + n), parts (λ r. within (r .start .0) (r .size) (a + n)))))
+      (none-starts from (λ q. q .size) (u .page) (a + n) (near a n s u) whole-near (omega (arith, once (a + n), parts (λ r. within (r .start .0) (r .size) (a + n)))))
 
   grows-done : (q : FreeRegion) → Member q (u .free) → q .stream ≡ s → upto q ≡ a → q .size + n ≤ new a n s u .size
   grows-done q m e h = omega (arith, sum-member (λ r. r .size) q (near a n s u) (filter-member (merges a n s) q (u .free) m (merges-previous a n s q e h)))
@@ -237,10 +219,6 @@ module _ (lost hand bare : ℕ → ℕ) (p f a n s : ℕ) (l : List FreeRegion) 
     );
   }
 
--- a change of tables that are known
-change-known : (g : Tables → Tables) (v : Tables) {E : Outcome → Tables → Type 0} → Holds (λ t. t ≡ v) (change g) (λ _ t. t ≡ g v) E
-change-known g v = holds-change g (λ t e. ap g e)
-
 -- Insert free, and whatever else is true of the tables that speaks of neither the free table nor the counter.
 pub inserts-free-and : (R : Tables → Type 0) → ((k : List FreeRegion) (c : ℕ) (t : Tables) → R t → R (withCounter c (withFree k t))) →
     (lost hand bare : ℕ → ℕ) (p f a n s : ℕ) (l : List FreeRegion) →
@@ -250,12 +228,12 @@ inserts-free-and R keeps lost hand bare p f a n s l =
     holds-looked (λ u i.
     let r = new a n s u in
     let reached : Tables = withFree (putFree r (rest a n s u)) u in
-    holds-then (λ _ t. t ≡ taken a n s u) (change-known (λ t. withFree (filter (λ q. not (merges a n s q)) (t .free)) t) u) (λ _.
+    holds-then (λ _ t. t ≡ taken a n s u) (holds-known (λ t. withFree (filter (λ q. not (merges a n s q)) (t .free)) t) u) (λ _.
     holds-then (λ _ t. t ≡ taken a n s u)
     (holds-must (drives-record (u .counter) s) (λ t e. tt) (λ c t e. subst Ceilings (sym e) (ceilings-taken lost hand bare p f a n s l u (i .0))))
     (λ _.
-    holds-then (λ _ t. t ≡ reached) (change-known (λ t. withFree (putFree r (t .free)) t) (taken a n s u)) (λ _.
-    holds-then (λ _ t. t ≡ done a n s u) (change-known (λ t. withCounter (t .counter + 1) t) reached) (λ _.
+    holds-then (λ _ t. t ≡ reached) (holds-known (λ t. withFree (putFree r (t .free)) t) (taken a n s u)) (λ _.
+    holds-then (λ _ t. t ≡ done a n s u) (holds-known (λ t. withCounter (t .counter + 1) t) reached) (λ _.
     holds-from
     (λ t e.
     subst (λ t. Inserted lost hand bare p f a n s l r t × R t) (sym e)

@@ -3,13 +3,14 @@
 use mathlib.Core.Path.{_≡_, refl, sym, _∙_}
 use mathlib.Core.Bool.{Bool, true, false, false≢true, cond, _||_}
 use mathlib.Core.List.{List}
-use Prim.Native.Nat.{ℕ, _+_, _<_}
+use Prim.Native.Nat.{ℕ, _<_}
 use native.Mathlib.Omega.{arith}
-use borrow.Author.Tests.{eqb-true, ne-eqb, le-leb}
+use borrow.Author.Tests.{eqb-true, ne-eqb}
 use lib.Dec.{eqb}
 use lib.ListN.{length}
 use Rattle.lists.specs.Tests.{Member}
-use Rattle.tables.specs.Values.{Tables, address, opened, stopped, poolOf, noTables, closedPool, packFree, packLive, packHoles, packZombies, packPages, packRoots}
+use Rattle.lists.proofs.Every.{and-true}
+use Rattle.tables.specs.Values.{Tables, address, opened, stopped, poolOf, noTables, closedPool}
 use Rattle.tables.specs.Steps.{Ending, on, ends, Went, Step, give}
 use Rattle.tables.specs.WellFormed.{ceilingsKept, wellFormed}
 use Rattle.tables.specs.Outcomes.{numbers, is}
@@ -47,6 +48,7 @@ use Rattle.tables.specs.declared.Outcome.the-variants.{
 }
 use Rattle.keeping.specs.Sound.{none, Ceilings, Kept, KeptBut, Left}
 use Rattle.keeping.specs.Holds.{After, Holds}
+use Rattle.keeping.proofs.WellFormedLeaves.{ceilings-pass}
 use Rattle.keeping.proofs.Sounds.{sound-drop-none}
 use Rattle.keeping.proofs.Holds.{holds-from, holds-any, holds-then, holds-give}
 use Rattle.keeping.proofs.FreeCall.{frees}
@@ -224,15 +226,8 @@ module _ (page va initial stream : ℕ) (c : Configured page va initial) (xs : L
 
 -- A stopped pool is well formed by its counts alone.
 pub stopped-well-formed : (t : Tables) → Ceilings t → wellFormed (poolOf stopped t) ≡ true
-unfolding wellFormed ceilingsKept poolOf packFree packLive packHoles packZombies packPages packRoots
-stopped-well-formed t c =
-    rw (
-      le-leb (length (t .pages)) 256 (c .pages),
-      le-leb (length (t .free) + length (t .live)) 128 (c .spans),
-      le-leb (length (t .zombies)) 128 (c .zombies),
-      le-leb (length (t .holes) + length (t .zombies)) 512 (c .holes),
-      le-leb (length (t .roots)) 16 (c .roots),
-    )
+unfolding wellFormed poolOf
+stopped-well-formed t c = and-true (ceilingsKept (poolOf stopped t)) _ (ceilings-pass stopped t c) refl
 
 -- So whatever a call leaves of a well-formed pool is well formed, if kept tables are.
 pub left-well-formed : {K : Tables → Type 0} {p q : Pool} → ((t : Tables) → K t → wellFormed (poolOf opened t) ≡ true) → wellFormed p ≡ true →

@@ -23,22 +23,13 @@ use Rattle.keeping.specs.Cover.{within}
 use Rattle.keeping.specs.Sound.{Whole, Kept, KeptBut, Left}
 use Rattle.keeping.specs.Holds.{Holds}
 use Rattle.keeping.proofs.Sounds.{sound-drop-none}
-use Rattle.keeping.proofs.Spans.{ceilings-few}
+use Rattle.keeping.proofs.Counts.{ceilings-few}
 use Rattle.keeping.proofs.TakeRange.{TakesFrom}
 use Rattle.keeping.proofs.MakeRoom.{Dropped, Roomed, makes-room}
 use Rattle.keeping.proofs.Cleanup.{cleans-up}
 use Rattle.keeping.proofs.Fit.{Fitting, Fitted, fits}
 use Rattle.keeping.proofs.HandOver.{Handing, hands-over}
-use Rattle.keeping.proofs.Holds.{
-  holds-from,
-  holds-to,
-  holds-given,
-  holds-named,
-  holds-then,
-  holds-give,
-  holds-looked,
-  holds-endIf,
-}
+use Rattle.keeping.proofs.Holds.{holds-from, holds-to, holds-given, holds-named, holds-then, holds-give, holds-looked, holds-endIf}
 
 -- `lost`, and a range that is dropped
 abbrev pub losing : (ℕ → ℕ) → ℕ × ℕ → ℕ → ℕ

@@ -12,8 +12,7 @@ use Rattle.lists.specs.Tests.{All, Member}
 use Rattle.lists.specs.Order.{put, Rises, without}
 use Rattle.lists.specs.Walks.{sum}
 use Rattle.lists.proofs.Order.{sum-put, length-put, all-put}
-use Rattle.lists.proofs.Members.{all-members, member-above, all-without, rises-without, sum-without, length-without, rises-put}
-use Rattle.lists.proofs.Sums.{sum-member, member-sum}
+use Rattle.lists.proofs.Members.{member-above, all-without, rises-without, sum-without, length-without, rises-put, member-sum}
 use Rattle.tables.specs.Values
 use Rattle.tables.specs.Values.{Tables, withPages}
 use Rattle.tables.specs.Steps.{_>>_, changePages}
@@ -22,22 +21,18 @@ use Rattle.tables.specs.Pull.{pagesIn, handleAt, movePages}
 use Rattle.tables.specs.declared.FreeRegion.{FreeRegion}
 use Rattle.tables.specs.declared.Zombie.{Zombie}
 use Rattle.tables.specs.declared.Page.{Page}
-use Rattle.tables.specs.declared.Outcome.{Outcome}
-use Rattle.tables.specs.declared.Outcome.the-variants.{DriverFailed, AnswersRanOut}
 use Rattle.keeping.specs.Cover.{within, equal, coverZombies, pagesAt}
 use Rattle.keeping.specs.Sound.{none, Sound, Whole, WholeRange, Ceilings, Left}
 use Rattle.keeping.specs.Counts.{Few}
 use Rattle.keeping.specs.Holds.{Holds}
-use Rattle.keeping.proofs.Cover.{within-join, within-none, within-out, equal-same}
-use Rattle.keeping.proofs.PulledMultiples.{aligned-add, within-page}
-use Rattle.keeping.proofs.Bare.{sound-bare}
+use Rattle.keeping.proofs.Cover.{within-join, within-none, within-out, equal-same, equal-positive}
+use Rattle.keeping.proofs.Whole.{whole-past, within-page}
+use Rattle.keeping.proofs.Counting.{keysAt, none-counted}
+use Rattle.keeping.proofs.Sounds.{sound-bare, sound-pages}
+use Rattle.keeping.proofs.NewPages.{holds-mapPage}
 use Rattle.keeping.proofs.Pull.{Pulled}
-use Rattle.keeping.proofs.Starts.{countAt, aligned-pagesIn, length-pagesIn, count-pagesIn}
-use Rattle.keeping.proofs.Holds.{holds-from, holds-to, holds-given, holds-then, holds-give, holds-looked, holds-change, holds-must, drives-map}
-
-equal-positive : (a b : ℕ) → 0 < equal a b → a ≡ b
-unfolding equal
-equal-positive a b h = omega arith
+use Rattle.keeping.proofs.PageStarts.{whole-startsOf, length-startsOf, count-startsOf}
+use Rattle.keeping.proofs.Holds.{holds-known, holds-from, holds-to, holds-given, holds-then, holds-give, holds-looked}
 
 -- the handle of the page that starts there
 handleAt-is : (b : ℕ) (g : Page) (l : List Page) → Rises at b l → Member g l → handleAt (at g) l ≡ g .handle .0
@@ -67,43 +62,19 @@ module _ (lost hand before : ℕ → ℕ) (b : ℕ) (t : Tables) (w : Sound lost
   sound-moved : (after : ℕ → ℕ) (a : ℕ) → Whole (t .page) a → pagesAt (t .pages) a ≡ 0 →
       ((x : ℕ) → x % t .page ≡ 0 → before x + equal a x ≡ after x + equal b x) → Sound lost hand after (moved b a t)
   sound-moved after a whole empty bare =
-      record {
-        page = w .page;
-        va = w .va;
-        small = w .small;
-        roots = w .roots;
-        free = w .free;
-        live = w .live;
-        holes = w .holes;
-        zombies = w .zombies;
-        pages = all-put at _ new left whole (all-without at _ b (t .pages) (w .pages));
-        freeRises = w .freeRises;
-        liveRises = w .liveRises;
-        holesApart = w .holesApart;
-        pagesRise = rises-put at 0 new left (whole .positive) (all-members _ left clear) (rises-without at b 0 (t .pages) (w .pagesRise));
-        rootsOnce = w .rootsOnce;
-        covered = w .covered;
-        pagesMatch = λ x h.
-            omega (
-              arith,
-              w .pagesMatch x h,
-              bare x h,
-              without-page (λ k. equal (at k) x),
-              sum-put at (λ k. equal (at k) x) new left,
-              ap (λ y. equal y x) e,
-            );
-        handlesOnce = λ h.
-            omega (
-              arith,
-              w .handlesOnce h,
-              without-page (λ k. equal (k .handle .0) h),
-              sum-put at (λ k. equal (k .handle .0) h) new left,
-              ap (λ y. equal y h) same,
-            );
-        idsOnce = w .idsOnce;
-        freeIds = w .freeIds;
-        zombieIds = w .zombieIds;
-      }
+      sound-pages w (put at new left)
+      (all-put at _ new left whole (all-without at _ b (t .pages) (w .pages)))
+      (rises-put at 0 new left (whole .positive) (none-counted at a left (omega (arith, without-page (λ k. equal (at k) a)))) (rises-without at b 0 (t .pages) (w .pagesRise)))
+      (λ x h.
+      omega (arith, bare x h, without-page (λ k. equal (at k) x), sum-put at (λ k. equal (at k) x) new left, ap (λ y. equal y x) e))
+      (λ h.
+      omega (
+        arith,
+        w .handlesOnce h,
+        without-page (λ k. equal (k .handle .0) h),
+        sum-put at (λ k. equal (k .handle .0) h) new left,
+        ap (λ y. equal y h) same,
+      ))
     where
       left : List Page
       left = without at b (t .pages)
@@ -114,21 +85,11 @@ module _ (lost hand before : ℕ → ℕ) (b : ℕ) (t : Tables) (w : Sound lost
       same : handleAt b (t .pages) ≡ g .handle .0
       same = rw (← e) (handleAt-is 0 g (t .pages) (w .pagesRise) m)
 
-      clear : (k : Page) → Member k left → at k ≡ a → ⊥
-      clear k i q =
-          omega (
-            arith,
-            sum-member (λ k. equal (at k) a) k left i,
-            without-page (λ k. equal (at k) a),
-            equal-same a,
-            ap (λ y. equal y a) q,
-          )
-
 -- While the pages at `bs` are still to be moved to `a` and on, and those before them fill the range from `base` up to `a`.
 record Moving (lost hand : ℕ → ℕ) (p base a c : ℕ) (f : List FreeRegion) (bs : List ℕ) (t : Tables) : Type 0 where
-  sound : Sound lost hand (λ x. countAt bs x + within base (a - base) x) t
-  aligned : All (λ b. b % p ≡ 0) bs
-  apart : (x : ℕ) → x % p ≡ 0 → countAt bs x + hand x ≤ 1
+  sound : Sound lost hand (λ x. keysAt (λ b. b) bs x + within base (a - base) x) t
+  starts : All (Whole p) bs
+  apart : (x : ℕ) → x % p ≡ 0 → keysAt (λ b. b) bs x + hand x ≤ 1
   whole : Whole p a
   past : base ≤ a
   room : (x : ℕ) → a ≤ x → x < a + length bs * p → hand x ≡ 1
@@ -140,7 +101,7 @@ module _ (lost hand : ℕ → ℕ) (p base a c : ℕ) (f : List FreeRegion) (b :
   -- the page at `b`
   page-there : (g : Page) × (Member g (t .pages) × (at g ≡ b))
   page-there =
-      let some : 0 < pagesAt (t .pages) b = omega (arith, w .sound .pagesMatch b (rw (w .page) (w .aligned .0)), equal-same b) in
+      let some : 0 < pagesAt (t .pages) b = omega (arith, w .sound .pagesMatch b (rw (w .page) (w .starts .0 .aligned)), equal-same b) in
       let r = member-sum (λ g. equal (at g) b) (t .pages) some in
       (r .0, (r .1 .0, equal-positive (at (r .0)) b (r .1 .1)))
 
@@ -161,9 +122,9 @@ module _ (lost hand : ℕ → ℕ) (p base a c : ℕ) (f : List FreeRegion) (b :
   moving-next =
       record {
         sound = sound-moved lost hand _ b t (w .sound) g m e _ a (rw (w .page) (w .whole)) none-there bare;
-        aligned = w .aligned .1;
+        starts = w .starts .1;
         apart = λ x h. omega (arith, w .apart x h);
-        whole = record { positive = omega (arith, w .whole .positive); aligned = aligned-add p a p (w .whole .aligned) (mod-self p) };
+        whole = whole-past p (w .whole) (mod-self p);
         past = omega (arith, w .past);
         room = λ x le lt. w .room x (omega arith) (omega (arith, suc-mul (length bs) p));
         few =
@@ -188,12 +149,12 @@ module _ (lost hand : ℕ → ℕ) (p base a c : ℕ) (f : List FreeRegion) (b :
       e = page-there .1 .1
 
       bare : (x : ℕ) → x % t .page ≡ 0 →
-          countAt (b ∷ bs) x + within base (a - base) x + equal a x ≡ countAt bs x + within base (a + p - base) x + equal b x
+          keysAt (λ b. b) (b ∷ bs) x + within base (a - base) x + equal a x ≡ keysAt (λ b. b) bs x + within base (a + p - base) x + equal b x
       bare x h =
           let here : base + (a - base) ≡ a = omega (arith, w .past) in
           let size : (a - base) + p ≡ a + p - base = omega (arith, w .past) in
           let join : within base (a + p - base) x ≡ within base (a - base) x + within a p x = rw (here, size) at (within-join base (a - base) p x) in
-          omega (arith, within-page p a x (w .whole .aligned) (rw (w .page) at h) (rw (w .page) at (w .sound .page)))
+          omega (arith, within-page p a x (rw (w .page) at (w .sound .page)) (w .whole .aligned) (rw (w .page) at h))
 
   -- a page that is out of the tables when a map fails leaves them within their ceilings
   ceilings-unpaged : c ≤ 128 → Ceilings (unpaged b t)
@@ -205,13 +166,6 @@ module _ (lost hand : ℕ → ℕ) (p base a c : ℕ) (f : List FreeRegion) (b :
         holes = w .few .holes;
         roots = w .few .roots;
       }
-
--- a page is mapped, and active there
-holds-mapPage : (a h : ℕ) {P : Tables → Type 0} {E : Outcome → Tables → Type 0} (Q : Tables → Type 0) → ((t : Tables) → P t → E AnswersRanOut t) →
-    ((c : ℕ) (t : Tables) → P t → E (DriverFailed c) t) → ((t : Tables) → P t → Q (withPages (put at (Values.page a h) (t .pages)) t)) →
-    Holds P (mapPage a h) (λ _. Q) E
-unfolding mapPage
-holds-mapPage a h {P} Q short fails put = holds-then (λ _. P) (holds-must (drives-map a h) short fails) (λ _. holds-change _ put)
 
 holds-moves : (lost hand : ℕ → ℕ) (p base a c : ℕ) (f : List FreeRegion) (bs : List ℕ) → c ≤ 128 →
     Holds (Moving lost hand p base a c f bs) (movePages bs a) (λ _. Moving lost hand p base (a + length bs * p) c f []) (Left lost)
@@ -227,7 +181,7 @@ holds-moves lost hand p base a c f (b ∷ bs) bound = holds-looked (λ u w. one 
     one u w next =
         let e : a + suc (length bs) * p ≡ a + p + length bs * p = omega (arith, suc-mul (length bs) p) in
         rw e
-        (holds-then (λ _ t. t ≡ unpaged b u) (holds-change _ (λ t q. ap (unpaged b) q))
+        (holds-then (λ _ t. t ≡ unpaged b u) (holds-known _ u)
         (λ _. holds-then (λ _. Moving lost hand p base (a + p) c f bs)
         (holds-mapPage a (handleAt b (u .pages)) _ (λ t q. tt) (λ k t q. rw q (ceilings-unpaged lost hand p base a c f b bs u w bound))
         (λ t q. rw q (moving-next lost hand p base a c f b bs u w)))
@@ -255,12 +209,12 @@ module _ (lost hand : ℕ → ℕ) (p a c : ℕ) (f : List FreeRegion) (zs : Lis
   moving-first : (t : Tables) → Movable lost hand p a c f zs t → Moving lost hand p a a c f (pagesIn p zs) t
   moving-first t w =
       record {
-        sound = sound-bare lost hand (coverZombies zs) _ t bare (w .sound);
-        aligned = aligned-pagesIn p zs (w .ranges);
-        apart = λ x h. omega (arith, count-pagesIn p zs x pos (w .ranges) h, w .among x, w .sound .covered x, w .sound .rootsOnce x);
+        sound = sound-bare (w .sound) bare;
+        starts = whole-startsOf (λ z. z .start .0) (λ z. z .size) p zs (w .ranges);
+        apart = λ x h. omega (arith, count-startsOf (λ z. z .start .0) (λ z. z .size) p zs pos (w .ranges) x h, w .among x, w .sound .covered x, w .sound .rootsOnce x);
         whole = w .whole;
         past = omega arith;
-        room = λ x le lt. w .room x le (omega (arith, length-pagesIn p zs (w .ranges)));
+        room = λ x le lt. w .room x le (omega (arith, length-startsOf (λ z. z .start .0) (λ z. z .size) p zs (w .ranges)));
         few = w .few;
         page = w .page;
         free = w .free;
@@ -269,15 +223,15 @@ module _ (lost hand : ℕ → ℕ) (p a c : ℕ) (f : List FreeRegion) (zs : Lis
       pos : 0 < p
       pos = rw (w .page) at (w .sound .page)
 
-      bare : (x : ℕ) → x % t .page ≡ 0 → coverZombies zs x ≡ countAt (pagesIn p zs) x + within a (a - a) x
+      bare : (x : ℕ) → x % t .page ≡ 0 → coverZombies zs x ≡ keysAt (λ b. b) (pagesIn p zs) x + within a (a - a) x
       bare x h =
           let nothing : a - a ≡ 0 = omega arith in
-          rw nothing (omega (arith, within-none a x, count-pagesIn p zs x pos (w .ranges) (rw (w .page) at h)))
+          rw nothing (omega (arith, within-none a x, count-startsOf (λ z. z .start .0) (λ z. z .size) p zs pos (w .ranges) x (rw (w .page) at h)))
 
   moved-last : (t : Tables) → All (λ z. WholeRange p (z .start .0) (z .size)) zs → Moving lost hand p a (a + length (pagesIn p zs) * p) c f [] t →
       Moved lost hand p a (sum (λ z. z .size) zs) c f t
   moved-last t ranges w =
-      record { sound = sound-bare lost hand _ _ t bare (w .sound); few = w .few; page = w .page; free = w .free }
+      record { sound = sound-bare (w .sound) bare; few = w .few; page = w .page; free = w .free }
     where
       n : ℕ
       n = sum (λ z. z .size) zs
@@ -285,7 +239,7 @@ module _ (lost hand : ℕ → ℕ) (p a c : ℕ) (f : List FreeRegion) (zs : Lis
       bare : (x : ℕ) → x % t .page ≡ 0 → 0 + within a (a + length (pagesIn p zs) * p - a) x ≡ within a n x
       bare x h =
           let e : a + length (pagesIn p zs) * p - a ≡ n =
-          omega (arith, length-pagesIn p zs ranges) in
+          omega (arith, length-startsOf (λ z. z .start .0) (λ z. z .size) p zs ranges) in
           rw e (omega arith)
 
   pub moves-pages : c ≤ 128 → Holds (Movable lost hand p a c f zs) (movePages (pagesIn p zs) a) (λ _. Moved lost hand p a (sum (λ z. z .size) zs) c f) (Left lost)
@@ -298,7 +252,7 @@ module _ (lost hand : ℕ → ℕ) (p a c : ℕ) (f : List FreeRegion) (zs : Lis
       ((x : ℕ) → a ≤ x → x < a + lacks → hand x ≡ 1) → Movable lost hand p a c f zs t
   pulled-movable lacks keep l t w free whole room =
       record {
-        sound = sound-bare lost hand _ (coverZombies zs) t (λ x h. omega arith) (w .sound);
+        sound = sound-bare (w .sound) (λ x h. omega arith);
         ranges = w .whole;
         among = λ x. omega (arith, w .among x);
         whole = whole;

@@ -6,7 +6,7 @@ use mathlib.Core.Bool.{Bool, false, _&&_}
 use mathlib.Core.List.{List, [], _∷_}
 use Prim.Native.Nat.{ℕ, zero, suc, _+_, _-_, _*_, _≤_, _<_, _%_, _/_}
 use native.Mathlib.Omega.{arith}
-use native.Mathlib.Nat.{suc-mul, zero-mod, mod-self, div-add-mod'}
+use native.Mathlib.Nat.{suc-mul, zero-mod, mod-self}
 use borrow.Author.Tests.{le-leb, lt-leb, lt-ltb, le-ltb}
 use lib.Dec.{leb, ltb, eqb}
 use lib.ListN.{length}
@@ -15,15 +15,27 @@ use Rattle.lists.specs.Order.{put, Rises, without}
 use Rattle.lists.specs.Walks.{sum}
 use Rattle.lists.proofs.Tests.{cases-eq, cases-lt}
 use Rattle.lists.proofs.Order.{sum-put, length-put, all-put, rises-below}
-use Rattle.lists.proofs.Members.{member-all, all-members, member-filter, member-above, all-without, rises-without, sum-without, length-without, rises-put}
-use Rattle.lists.proofs.Filters.{rises-filter, without-member}
+use Rattle.lists.proofs.Members.{
+  member-all,
+  all-members,
+  member-filter,
+  member-above,
+  all-without,
+  rises-without,
+  sum-without,
+  length-without,
+  rises-put,
+  without-keeps,
+}
+use Rattle.lists.proofs.Filters.{rises-filter}
 use Rattle.words.specs.Answers.{codeOf, valueOf, failed}
 use Rattle.words.specs.declared.Answer.{Answer}
 use Rattle.tables.specs.Values.{Tables, page, withHoles, withPages}
 use Rattle.tables.specs.InsertHole.{insertHole}
 use Rattle.tables.specs.NewPages.{Room, at, mapPage, unmake, newPages, rollBack, isActive, created, makePages}
 use Rattle.tables.specs.declared.Page.{Page}
-use Rattle.tables.specs.declared.Outcome.the-variants.{OutOfMemory, DriverFailed, Incredible}
+use Rattle.tables.specs.declared.Outcome.{Outcome}
+use Rattle.tables.specs.declared.Outcome.the-variants.{OutOfMemory, DriverFailed, Incredible, AnswersRanOut}
 use Rattle.keeping.specs.Cover.{within, equal, pagesAt, handlesAt}
 use Rattle.keeping.specs.Sound.{none, Whole, WholeRange, Sound, Ceilings, Kept, Left}
 use Rattle.keeping.specs.Counts.{Making}
@@ -47,10 +59,18 @@ use Rattle.keeping.proofs.Holds.{
   drives-unmap,
   drives-release,
 }
+use Rattle.keeping.proofs.Counts.{few-ceilings}
 use Rattle.keeping.proofs.Cover.{within-join, within-cut, within-in, within-out, within-none, equal-same, equal-other}
-use Rattle.keeping.proofs.Holes.{cover-hole, apart-hole}
-use Rattle.keeping.proofs.Sounds.{sound-as, sound-once, sound-holes, sound-pages, sound-bare, sound-range}
-use Rattle.keeping.proofs.PageTable.{aligned-add, whole-past, within-page, none-counted, none-passes, count-kept, count-dropped, whole-hole}
+use Rattle.keeping.proofs.Sounds.{sound-as, sound-once, sound-hole, sound-pages, sound-bare}
+use Rattle.keeping.proofs.Whole.{aligned-add, aligned-pages, whole-past, within-page}
+use Rattle.keeping.proofs.Counting.{none-counted, none-passes, count-kept, count-dropped}
+
+-- a page is mapped, and active there
+pub holds-mapPage : (a h : ℕ) {P : Tables → Type 0} {E : Outcome → Tables → Type 0} (Q : Tables → Type 0) → ((t : Tables) → P t → E AnswersRanOut t) →
+    ((c : ℕ) (t : Tables) → P t → E (DriverFailed c) t) → ((t : Tables) → P t → Q (withPages (put at (page a h) (t .pages)) t)) →
+    Holds P (mapPage a h) (λ _. Q) E
+unfolding mapPage
+holds-mapPage a h {P} Q short fails put = holds-then (λ _. P) (holds-must (drives-map a h) short fails) (λ _. holds-change _ put)
 
 -- The range of `n` bytes from `s` is in hand, and its pages are made from `s` up to `a`; `k` more are to be made.
 pub record PagesTo (lost : ℕ → ℕ) (p f k s n a : ℕ) (t : Tables) : Type 0 where
@@ -72,14 +92,7 @@ record Unmaking (lost : ℕ → ℕ) (p f k s n : ℕ) (m : List Page) (t : Tabl
 
 -- While pages are made the ceilings hold, whatever ends the call.
 pub making-ceilings : {p f k s n : ℕ} {t : Tables} → Making p f k s n t → Ceilings t
-making-ceilings w =
-    record {
-      pages = omega (arith, w .few .pages);
-      spans = omega (arith, w .few .spans);
-      zombies = w .few .zombies;
-      holes = w .few .holes;
-      roots = w .few .roots;
-    }
+making-ceilings w = few-ceilings (omega arith) (w .few)
 
 making-pages : {p f k s n : ℕ} {t : Tables} (j : ℕ) (l : List Page) → length l + j ≤ 256 → Making p f k s n t → Making p f j s n (withPages l t)
 making-pages j l h w =
@@ -117,7 +130,7 @@ module _ (lost : ℕ → ℕ) (p f : ℕ) where
       still : (q : Page) → Member q m → Member q (without at (at g) (t .pages))
       still q i =
           let apart : at q ≡ at g → ⊥ = λ e. omega (arith, member-above at (at g) q m (w .rises .1) i) in
-          without-member at (at g) q (t .pages) (member-all _ q m i (w .here .1)) apart
+          without-keeps at (at g) q (t .pages) (member-all _ q m i (w .here .1)) apart
 
   unmakes : (k s n : ℕ) (g : Page) (m : List Page) →
       Holds (Unmaking lost p f k s n (g ∷ m)) (unmake g) (λ _. Unmaking lost p f k s n m) (Left lost)
@@ -165,13 +178,7 @@ module _ (lost : ℕ → ℕ) (p f : ℕ) where
   rollback-ends : (k s n : ℕ) (t : Tables) → Unmaking lost p f k s n [] t → Kept lost (withHoles (insertHole s n (t .holes)) t)
   rollback-ends k s n t w =
       record {
-        sound =
-            sound-holes (w .sound) (insertHole s n (t .holes))
-            (whole-hole (t .page) s n (t .holes) (record { start = w .start; size = w .size }) (w .sound .holes))
-            (apart-hole s n 0 _ (t .holes) (w .sound .holesApart) (w .start .positive)
-            (sound-range (w .sound) s n (w .size .positive) (λ x. omega arith))
-            (λ x. omega (arith, sound-once (w .sound) x)))
-            (λ x. omega (arith, cover-hole s n (t .holes) x));
+        sound = sound-hole (w .sound) s n (λ x. omega arith) (λ _. record { start = w .start; size = w .size });
         ceilings =
             record {
               pages = omega (arith, w .making .few .pages);
@@ -211,7 +218,7 @@ module _ (lost : ℕ → ℕ) (p f : ℕ) where
     here : Whole (t .page) a
     here =
         let e : s + (a - s) ≡ a = omega (arith, w .place .0) in
-        rw e at (whole-past (t .page) s (a - s) (w .start) (w .place .1))
+        rw e at (whole-past (a - s) (w .start) (w .place .1))
 
     room : a + p + k * p ≤ s + n
     room = omega (arith, w .fits, suc-mul k p)
@@ -259,11 +266,9 @@ module _ (lost : ℕ → ℕ) (p f : ℕ) where
 
   pub maps-page : (k s n a h : ℕ) →
       Holds (λ t. PagesTo lost p f (suc k) s n a t × (handlesAt (t .pages) h ≡ 0)) (mapPage a h) (λ _. PagesTo lost p f k s n (a + p)) (Left lost)
-  unfolding mapPage
   maps-page k s n a h =
-      holds-then (λ _ t. PagesTo lost p f (suc k) s n a t × (handlesAt (t .pages) h ≡ 0))
-      (holds-must (drives-map a h) (λ t _. tt) (λ c t w. making-ceilings (w .0 .making))) (λ _.
-      holds-change _ (λ t w. page-mapped k s n a h t (w .0) (w .1)))
+      holds-mapPage a h (PagesTo lost p f k s n (a + p)) (λ t _. tt) (λ c t w. making-ceilings (w .0 .making))
+      (λ t w. page-mapped k s n a h t (w .0) (w .1))
 
   pub makes-pages : (k : ℕ) (o : Room) (a : ℕ) →
       Holds (PagesTo lost p f k (o .start) (o .size) a) (makePages k o a) (λ _. PagesTo lost p f 0 (o .start) (o .size) (a + k * p)) (Left lost)
@@ -301,8 +306,7 @@ pub makes-missing : (lost : ℕ → ℕ) (p f : ℕ) (o : Room) → o .missing %
     Holds (PagesTo lost p f (o .missing / p) (o .start) (o .size) (o .start)) (makePages (o .missing / p) o (o .start))
     (λ _. PagesTo lost p f 0 (o .start) (o .size) (o .start + o .missing)) (Left lost)
 makes-missing lost p f o e =
-    let d : o .missing / p * p ≡ o .missing = omega (arith, div-add-mod' (o .missing) p) in
-    rw d at (makes-pages lost p f (o .missing / p) o (o .start))
+    rw (aligned-pages p (o .missing) e) at (makes-pages lost p f (o .missing / p) o (o .start))
 
 -- Once all are made: the range is the made part, which is bare, and the rest.
 module _ (lost : ℕ → ℕ) (p f s n m : ℕ) (t : Tables) (w : PagesTo lost p f 0 s n (s + m) t) where

@@ -2,17 +2,16 @@
 use mathlib.Core.Path.{_≡_, refl, _∙_}
 use mathlib.Core.Logic.{inl}
 use mathlib.Core.Bool.{false, not}
-use mathlib.Core.List.{List, [], _∷_}
+use mathlib.Core.List.{[]}
 use Prim.Native.Nat.{ℕ, _+_, _-_, _*_, _≤_, _<_, _/_, _%_, _^_}
 use native.Mathlib.Omega.{arith}
 use native.Mathlib.Nat.{mul-div-cancel, mul-mod-left, mul-pos}
-use borrow.Author.Tests.{eqb-true, eqb-false, leb-true, ltb-false, not-true, not-false}
-use lib.Dec.{ltb, leb, eqb}
+use borrow.Author.Tests.{eqb-false, ltb-false, not-false}
+use lib.Dec.{ltb, eqb}
 use lib.ListN.{length}
-use Rattle.lists.proofs.Tests.{both, neither}
-use Rattle.lists.proofs.Members.{member-all}
-use Rattle.lists.proofs.Sums.{sum-member}
-use Rattle.words.specs.declared.Address.{Address}
+use Rattle.lists.proofs.Tests.{neither}
+use Rattle.lists.proofs.Walks.{sum-some}
+use Rattle.lists.proofs.Members.{member-all, sum-member}
 use Rattle.tables.specs.Values.{Tables, address, noTables}
 use Rattle.tables.specs.Steps.{_>>_}
 use Rattle.tables.specs.Driver.{must, sync}
@@ -27,19 +26,11 @@ use Rattle.keeping.specs.Holds.{Holds}
 use Rattle.keeping.proofs.Cover.{within-in, within-none}
 use Rattle.keeping.proofs.Holes.{length-hole}
 use Rattle.keeping.proofs.Sounds.{sound-as, sound-undropped}
-use Rattle.keeping.proofs.Spans.{few-ceilings}
+use Rattle.keeping.proofs.Counts.{few-ceilings}
+use Rattle.keeping.proofs.WellFormedTests.{allowed-of}
 use Rattle.keeping.proofs.TakeRange.{Reserved, rooted, reserves-root, TakesFrom}
 use Rattle.keeping.proofs.MakeRoom.{Roomed, makes-room}
-use Rattle.keeping.proofs.Holds.{
-  holds-from,
-  holds-to,
-  holds-then,
-  holds-give,
-  holds-looked,
-  holds-cond,
-  holds-must,
-  drives-sync,
-}
+use Rattle.keeping.proofs.Holds.{holds-from, holds-to, holds-then, holds-give, holds-looked, holds-cond, holds-must, drives-sync}
 
 -- the page size, va_size and the initial pages as open allows them
 pub record Configured (page va initial : ℕ) : Type 0 where
@@ -52,20 +43,18 @@ pub record Configured (page va initial : ℕ) : Type 0 where
 -- 19 is what refuses every other configuration.
 pub configured : (granularity override va initial : ℕ) → badConfiguration granularity override va initial ≡ false →
     Configured (pageSize granularity override) va initial
-unfolding badConfiguration allowed
+unfolding badConfiguration
 configured granularity override va initial e =
     let page = pageSize granularity override in
     let a = neither (eqb granularity 0) _ e .1 in
     let b = neither (not (eqb (override % granularity) 0)) _ a .1 in
     let c = neither (not (allowed page va)) _ b in
     let d = neither (ltb 256 initial) (ltb va (initial * page)) (c .1) in
-    let f = both (not (eqb page 0)) _ (not-false (allowed page va) (c .0)) in
-    let g = both (not (eqb va 0)) _ (f .1) in
-    let h = both (eqb (va % page) 0) (leb va (2 ^ 46)) (g .1) in
+    let f = allowed-of page va (not-false (allowed page va) (c .0)) in
     record {
-      positive = omega (arith, eqb-false page 0 (not-true (eqb page 0) (f .0)));
-      whole = record { positive = omega (arith, eqb-false va 0 (not-true (eqb va 0) (g .0))); aligned = eqb-true (va % page) 0 (h .0) };
-      small = leb-true va (2 ^ 46) (h .1);
+      positive = f .0;
+      whole = f .1 .0;
+      small = f .1 .1;
       few = ltb-false 256 initial (d .0);
       fits = ltb-false va (initial * page) (d .1);
     }
@@ -74,11 +63,6 @@ configured granularity override va initial e =
 pub record OpenedKept (t : Tables) : Type 0 where
   pub kept : Kept none t
   pub rooted : 0 < length (t .roots)
-
--- some root holds an address that is held
-roots-some : (va x : ℕ) (l : List Address) → 0 < coverRoots va l x → 0 < length l
-roots-some va x [] h = h
-roots-some va x (a ∷ l) h = omega arith
 
 module _ (page va initial : ℕ) (c : Configured page va initial) where
   abbrev empty : Tables
@@ -155,8 +139,8 @@ module _ (page va initial : ℕ) (c : Configured page va initial) where
 roomed-kept : (n s : ℕ) (r : FreeRegion) (t : Tables) → Roomed none 0 n s r t → OpenedKept t
 roomed-kept n s r t w =
     record {
-      kept = record { sound = sound-undropped (within (w .dropped .0) (w .dropped .1)) (w .sound) nothing; ceilings = few-ceilings (w .few) };
-      rooted = roots-some (t .va) a (t .roots) held;
+      kept = record { sound = sound-undropped (within (w .dropped .0) (w .dropped .1)) (w .sound) nothing; ceilings = few-ceilings (omega arith) (w .few) };
+      rooted = sum-some (λ b. within (b .0) (t .va) a) (t .roots) held;
     }
   where
     nothing : (x : ℕ) → within (w .dropped .0) (w .dropped .1) x ≡ 0

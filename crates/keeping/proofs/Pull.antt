@@ -12,8 +12,7 @@ use Rattle.lists.specs.Tests.{All, Member}
 use Rattle.lists.specs.Walks.{sum}
 use Rattle.lists.proofs.Tests.{all-append, cases-lt}
 use Rattle.lists.proofs.Walks.{sum-append}
-use Rattle.lists.proofs.Members.{member-all, all-members, all-without, rises-without, sum-without, length-without}
-use Rattle.lists.proofs.Sums.{sum-member, without-keeps}
+use Rattle.lists.proofs.Members.{member-all, all-members, all-without, rises-without, sum-without, length-without, sum-member, without-keeps}
 use Rattle.tables.specs.Values.{Tables, zombie, withFree, withZombies}
 use Rattle.tables.specs.Steps.{_>>=_, give, change}
 use Rattle.tables.specs.InsertFree.{from, bytes, putRest, withoutFree}
@@ -26,10 +25,11 @@ use Rattle.keeping.specs.Cover.{within, equal, coverFree, coverZombies}
 use Rattle.keeping.specs.Sound.{Sound, WholeRange, Ceilings, Left}
 use Rattle.keeping.specs.Counts.{Few}
 use Rattle.keeping.specs.Holds.{Holds}
-use Rattle.keeping.proofs.Cover.{within-in, equal-same}
-use Rattle.keeping.proofs.Bare.{sound-bare}
-use Rattle.keeping.proofs.PulledMultiples.{aligned-sub, aligned-min, whole-low, whole-high}
-use Rattle.keeping.proofs.PulledRest.{cover-putRest, ids-putRest, length-putRest, length-putNone, all-putRest, rises-putRest, putRest-keeps}
+use Rattle.keeping.proofs.Cover.{equal-same}
+use Rattle.keeping.proofs.Counting.{none-starts}
+use Rattle.keeping.proofs.Sounds.{sound-alone, sound-bare, sound-free, sound-zombies}
+use Rattle.keeping.proofs.Whole.{aligned-sub, aligned-min, whole-lower, whole-upper}
+use Rattle.keeping.proofs.Rest.{cover-putRest, ids-putRest, length-putRest, length-putNone, all-putRest, rises-putRest, putRest-keeps}
 use Rattle.keeping.proofs.Holds.{holds-from, holds-given, holds-then, holds-give, holds-change, holds-cond, holds-must, holds-isComplete, drives-wait}
 
 -- the tables without the region `r`, and with the first `n` bytes of it as a zombie and its rest put back
@@ -49,52 +49,24 @@ module _ (lost hand bare : ℕ → ℕ) (t : Tables) (w : Sound lost hand bare t
 
   -- no other region starts inside `r`
   none-inside : (n : ℕ) → n < r .size → All (λ q. from q ≡ from r + n → ⊥) (withoutFree (from r) (t .free))
-  none-inside n lt = all-members (λ q. from q ≡ from r + n → ⊥) left clear
-    where
-      left : List FreeRegion
-      left = withoutFree (from r) (t .free)
-
-      clear : (q : FreeRegion) → Member q left → from q ≡ from r + n → ⊥
-      clear q k e =
-          let x = from r + n in
-          let wide = member-all (λ q. WholeRange (t .page) (from q) (q .size)) q left k (all-without from _ (from r) (t .free) (w .free)) in
-          omega (
-            arith,
-            wide .size .positive,
-            within-in (from r) (r .size) x (omega arith) (omega arith),
-            within-in (from q) (q .size) x (omega arith) (omega (arith, wide .size .positive)),
-            sum-member (λ q. within (from q) (q .size) x) q left k,
-            without-region (λ q. within (from q) (q .size) x),
-            w .covered x,
-            w .rootsOnce x,
-          )
+  none-inside n lt =
+      none-starts from (λ q. q .size) (t .page) (from r + n) (withoutFree (from r) (t .free)) (all-without from _ (from r) (t .free) (w .free))
+      (sound-alone w r m (from r + n) (omega arith) (omega arith) .0)
 
   sound-pulled : (n : ℕ) → 0 < n → n ≤ r .size → n % t .page ≡ 0 → Sound lost hand (λ x. bare x + within (from r) n x) (pulled n r t)
   sound-pulled n pos le whole =
-      record {
-        page = w .page;
-        va = w .va;
-        small = w .small;
-        roots = w .roots;
-        free =
-            all-putRest n r left le _ (λ lt. whole-high (t .page) (from r) (r .size) n wide lt whole) (all-without from _ (from r) (t .free) (w .free));
-        live = w .live;
-        holes = w .holes;
-        zombies = all-append _ (t .zombies) _ (w .zombies) (whole-low (t .page) (from r) (r .size) n wide pos whole, tt);
-        pages = w .pages;
-        freeRises =
-            rises-putRest n r left le 0 (wide .start .positive) (none-inside n) (rises-without from (from r) 0 (t .free) (w .freeRises));
-        liveRises = w .liveRises;
-        holesApart = w .holesApart;
-        pagesRise = w .pagesRise;
-        rootsOnce = w .rootsOnce;
-        covered = λ x. omega (arith, w .covered x, free x, zombies x);
-        pagesMatch = λ x h. omega (arith, w .pagesMatch x h, free x);
-        handlesOnce = w .handlesOnce;
-        idsOnce = λ i. omega (arith, w .idsOnce i, ids-putRest n r left le i, without-region (λ q. equal (q .id .0) i));
-        freeIds = all-putRest n r left le _ (λ lt. id) (all-without from _ (from r) (t .free) (w .freeIds));
-        zombieIds = all-append _ (t .zombies) _ (w .zombieIds) (id, tt);
-      }
+      let out : Sound lost (λ x. hand x + within (from r) n x) (λ x. bare x + within (from r) n x) (withFree (putRest n r left) t) =
+      sound-free w (putRest n r left)
+      (all-putRest n r left le _ (λ lt. whole-upper n wide whole lt) (all-without from _ (from r) (t .free) (w .free)))
+      (rises-putRest n r left le 0 (omega (arith, wide .start .positive)) (none-inside n) (rises-without from (from r) 0 (t .free) (w .freeRises)))
+      (λ x. omega (arith, free x))
+      (λ x h. omega (arith, free x))
+      (λ i. omega (arith, w .idsOnce i, ids-putRest n r left le i, without-region (λ q. equal (q .id .0) i)))
+      (all-putRest n r left le _ (λ lt. id) (all-without from _ (from r) (t .free) (w .freeIds))) in
+      sound-zombies out (t .zombies ++ part n r ∷ [])
+      (all-append _ (t .zombies) _ (w .zombies) (whole-lower n wide whole pos, tt))
+      (λ x. omega (arith, zombies x))
+      (all-append _ (t .zombies) _ (w .zombieIds) (id, tt))
     where
       left : List FreeRegion
       left = withoutFree (from r) (t .free)
@@ -253,7 +225,7 @@ module _ (lost hand bare : ℕ → ℕ) (p lacks c : ℕ) (keep : List FreeRegio
       let whole = aligned-min p lacks (r .size) (w .lacking .0) (wide .size .aligned) in (
         refl,
         (
-          whole-low p (from r) (r .size) (takenOf lacks r) wide some whole,
+          whole-lower (takenOf lacks r) wide whole some,
           omega (arith, w .few .spans, length-without from 0 r (t .free) (w .sound .freeRises) here),
         ),
       )
@@ -284,7 +256,7 @@ module _ (lost hand bare : ℕ → ℕ) (p lacks c : ℕ) (keep : List FreeRegio
       Pulled lost hand bare p lacks c keep (r ∷ l) (part (takenOf lacks r) r ∷ zs) t
   pulled-next zs t whole some w =
       record {
-        sound = sound-bare lost hand _ _ t (λ x h. omega arith) (w .sound);
+        sound = sound-bare (w .sound) (λ x h. omega arith);
         total = omega (arith, w .total);
         whole = (whole, w .whole);
         few =
@@ -306,7 +278,7 @@ pulled-none : (lost hand bare : ℕ → ℕ) (p lacks c : ℕ) (keep l : List Fr
     Pulled lost hand bare p lacks c keep l [] t
 pulled-none lost hand bare p lacks c keep l t z w =
     record {
-      sound = sound-bare lost hand bare _ t (λ x h. omega arith) (w .sound);
+      sound = sound-bare (w .sound) (λ x h. omega arith);
       total = omega arith;
       whole = tt;
       few = w .few;

@@ -21,7 +21,7 @@ use Rattle.keeping.specs.Sound.{none, WholeRange, Left}
 use Rattle.keeping.specs.Holds.{Holds}
 use Rattle.keeping.proofs.Cover.{within-in}
 use Rattle.keeping.proofs.Sounds.{sound-as, sound-once}
-use Rattle.keeping.proofs.TakeRange.{ceilings-few}
+use Rattle.keeping.proofs.Counts.{few-ceilings}
 use Rattle.keeping.proofs.InsertFree.{Inserting, Inserted, inserts-free}
 use Rattle.keeping.proofs.Pull.{Pulling, Pulled, pulls}
 use Rattle.keeping.proofs.PullOrder.{sum-pullOrder, length-pullOrder}
@@ -120,7 +120,7 @@ module _ (lost rest : ℕ → ℕ) (p lacks c : ℕ) (keep others : List FreeReg
             let n = sum (λ z. z .size) zs in
             holds-then (λ _. Moved lost filling p place n 127 l) (moves-pages lost filling p place 127 l zs (omega arith))
             (λ _. holds-then (λ _. Moved lost filling p place n 127 l)
-            (holds-must (drives-access place lacks) (λ t m. tt) (λ k t m. ceilings-few (omega arith) (m .few)))
+            (holds-must (drives-access place lacks) (λ t m. tt) (λ k t m. few-ceilings (omega arith) (m .few)))
             (λ _. holds-from (λ t m. moved-inserting n l t total m)
             (holds-to (λ r t i. record { before = l; inserted = i; kept = kept })
             (inserts-free lost rest none p (bytes l) place lacks (o .stream) l))))

@@ -1,18 +1,17 @@
 -- The order in which regions are pulled only rearranges them: whatever is counted counts the same, so what is to be pulled has distinct starts and
 -- all its bytes. Assumes nothing.
-use mathlib.Core.Path.{_≡_, refl, sym, _∙_}
-use mathlib.Core.Logic.{⊎-elim}
+use mathlib.Core.Path.{_≡_, sym, _∙_}
 use mathlib.Core.List.{List, [], _∷_}
 use Prim.Native.Nat.{ℕ, _+_, _≤_, _%_}
 use native.Mathlib.Omega.{arith}
 use lib.Dec.{eqb}
 use lib.ListN.{length}
 use Rattle.lists.specs.Tests.{All, Member}
-use Rattle.lists.specs.Order.{sorted, Rises}
+use Rattle.lists.specs.Order.{sorted}
 use Rattle.lists.specs.Walks.{sum}
-use Rattle.lists.proofs.Tests.{all-append, all-filter, cases-eq}
+use Rattle.lists.proofs.Tests.{all-append, all-filter}
 use Rattle.lists.proofs.Order.{sum-sorted, all-sorted}
-use Rattle.lists.proofs.Walks.{sum-append, sum-filter}
+use Rattle.lists.proofs.Walks.{length-sum, sum-append, sum-filter}
 use Rattle.lists.proofs.Members.{all-members, all-without, sum-without}
 use Rattle.tables.specs.Values.{Tables, withFree}
 use Rattle.tables.specs.InsertFree.{from, bytes, withoutFree}
@@ -21,12 +20,8 @@ use Rattle.tables.specs.declared.FreeRegion.{FreeRegion}
 use Rattle.keeping.specs.Cover.{equal}
 use Rattle.keeping.specs.Sound.{Sound, none}
 use Rattle.keeping.specs.Counts.{Few, Pullable}
-use Rattle.keeping.proofs.Cover.{equal-le, equal-other}
+use Rattle.keeping.proofs.Counting.{rises-once}
 use Rattle.keeping.proofs.Pull.{Pulling}
-
-length-ones : (l : List FreeRegion) → length l ≡ sum (λ r. 1) l
-length-ones [] = refl
-length-ones (r ∷ l) = omega (arith, length-ones l)
 
 module _ (s : ℕ) (l : List FreeRegion) where
   pub sum-pullOrder : (f : FreeRegion → ℕ) → sum f (pullOrder s l) ≡ sum f l
@@ -40,28 +35,13 @@ module _ (s : ℕ) (l : List FreeRegion) where
       )
 
   pub length-pullOrder : length (pullOrder s l) ≡ length l
-  length-pullOrder = length-ones (pullOrder s l) ∙ sum-pullOrder (λ r. 1) ∙ sym (length-ones l)
+  length-pullOrder = length-sum (pullOrder s l) ∙ sum-pullOrder (λ r. 1) ∙ sym (length-sum l)
 
   pub all-pullOrder : (P : FreeRegion → Type 0) → All P l → All P (pullOrder s l)
   all-pullOrder P a =
       all-append P (sorted (λ r. r .id .0) (ownOf s l)) (sorted (λ r. r .id .0) (othersOf s l))
       (all-sorted (λ r. r .id .0) P (ownOf s l) (all-filter P _ l a))
       (all-sorted (λ r. r .id .0) P (othersOf s l) (all-filter P _ l a))
-
-module _ {A : Type 0} (key : A → ℕ) where
-  -- keys that rise are above their bound, and each is there once
-  rises-none : (b a : ℕ) (l : List A) → a ≤ b → Rises key b l → sum (λ x. equal (key x) a) l ≡ 0
-  rises-none b a [] h r = refl
-  rises-none b a (x ∷ l) h r =
-      omega (arith, equal-other (key x) a (λ e. omega (arith, r .0)), rises-none (key x) a l (omega (arith, r .0)) (r .1))
-
-  pub rises-once : (b a : ℕ) (l : List A) → Rises key b l → sum (λ x. equal (key x) a) l ≤ 1
-  rises-once b a [] r = omega arith
-  rises-once b a (x ∷ l) r =
-      ⊎-elim
-      (λ e. omega (arith, equal-le (key x) a, rises-none (key x) a l (omega arith) (r .1)))
-      (λ e. omega (arith, equal-other (key x) a e, rises-once (key x) a l (r .1)))
-      (cases-eq (key x) a)
 
 -- What pulling starts from: the free table is made up of the regions `l`, which have all that lacks, and of `keep`.
 module _ (lost hand : ℕ → ℕ) (p s lacks c : ℕ) (t : Tables) (sound : Sound lost hand none t) (few : Few 0 c t) (page : t .page ≡ p) (aligned : lacks % p ≡ 0) where

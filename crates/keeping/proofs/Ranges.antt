@@ -5,11 +5,10 @@ use Prim.Native.Nat.{ℕ, _+_}
 use native.Mathlib.Omega.{arith}
 use Rattle.lists.specs.Tests.{All}
 use Rattle.lists.specs.Order.{sorted}
-use Rattle.lists.proofs.Tests.{all-append}
-use Rattle.lists.proofs.Every.{all-map, all-unmap, all-first, all-second}
+use Rattle.lists.proofs.Tests.{all-append, all-first, all-second}
+use Rattle.lists.proofs.Maps.{all-map, all-unmap, sum-map}
 use Rattle.lists.proofs.Order.{all-sorted, sum-sorted}
 use Rattle.lists.proofs.Walks.{sum-append}
-use Rattle.lists.proofs.SumLaws.{sum-map}
 use Rattle.tables.specs.Values.{Tables}
 use Rattle.tables.specs.WellFormed.{Range, range, spans, ranges, holesIn}
 use Rattle.tables.specs.declared.FreeRegion.{FreeRegion}
@@ -50,7 +49,7 @@ module _ (t : Tables) where
   pub cover-spans : (x : ℕ) → coverSpans (spans t) x ≡ coverFree (t .free) x + coverLive (t .live) x
   cover-spans x =
       let f : Range → ℕ = λ h. within (h .from) (h .size) x in
-      omega (arith, sum-append f (map ofFree (t .free)) (map ofLive (t .live)), sum-map f ofFree (t .free), sum-map f ofLive (t .live))
+      omega (arith, sum-append f (map ofFree (t .free)) (map ofLive (t .live)), sum-map ofFree f (t .free), sum-map ofLive f (t .live))
 
   pub cover-ranges : (x : ℕ) → coverSpans (ranges t) x ≡ tablesAt t x
   cover-ranges x =
@@ -60,8 +59,8 @@ module _ (t : Tables) where
         cover-spans x,
         sum-append f (spans t) (holesIn t ++ map ofZombie (t .zombies)),
         sum-append f (holesIn t) (map ofZombie (t .zombies)),
-        sum-map f ofHole (t .holes),
-        sum-map f ofZombie (t .zombies),
+        sum-map ofHole f (t .holes),
+        sum-map ofZombie f (t .zombies),
       )
 
   module _ (P : Range → Type 0) where

@@ -10,24 +10,22 @@ use borrow.Author.Tests.{eqb-true, eq-eqb}
 use lib.Dec.{eqb}
 use Rattle.lists.specs.Tests.{All}
 use Rattle.lists.specs.Order.{Rises}
-use Rattle.lists.proofs.Tests.{both}
+use Rattle.lists.proofs.Tests.{both, either}
 use Rattle.tables.specs.InsertFree.{from, upto, bytes, merges}
 use Rattle.tables.specs.declared.FreeRegion.{FreeRegion}
 use Rattle.keeping.specs.Cover.{within, coverFree}
 use Rattle.keeping.specs.Sound.{WholeRange}
 use Rattle.keeping.proofs.Cover.{within-join, within-in}
-use Rattle.keeping.proofs.WholeSums.{leastOf}
+use Rattle.keeping.proofs.Whole.{leastOf}
 
 -- `q` starts where the range ends, or ends where it starts
 abbrev pub Touches : ℕ → ℕ → FreeRegion → Type 0
 Touches a n q = (from q ≡ a + n) ⊎ (upto q ≡ a)
 
 pub merges-touches : (a n s : ℕ) (q : FreeRegion) → merges a n s q ≡ true → Touches a n q
-merges-touches a n s q e = go (eqb (from q) (a + n)) refl (both (eqb (from q) (a + n) || eqb (upto q) a) (eqb (q .stream) s) e .0)
-  where
-    go : (b : Bool) → eqb (from q) (a + n) ≡ b → (b || eqb (upto q) a) ≡ true → Touches a n q
-    go true f h = inl (eqb-true (from q) (a + n) f)
-    go false f h = inr (eqb-true (upto q) a h)
+merges-touches a n s q e =
+    ⊎-elim (λ h. inl (eqb-true (from q) (a + n) h)) (λ h. inr (eqb-true (upto q) a h))
+    (either (eqb (from q) (a + n)) (eqb (upto q) a) (both (eqb (from q) (a + n) || eqb (upto q) a) (eqb (q .stream) s) e .0))
 
 pub merges-previous : (a n s : ℕ) (q : FreeRegion) → q .stream ≡ s → upto q ≡ a → merges a n s q ≡ true
 merges-previous a n s q e h = rw (eq-eqb (upto q) a h, eq-eqb (q .stream) s e) (go (eqb (from q) (a + n)))
@@ -95,11 +93,3 @@ module _ (a n : ℕ) where
   ends-merged (q ∷ []) (next h) w = absurd (w .0 h)
   ends-merged (q ∷ []) (previous h) w = omega arith
   ends-merged (q ∷ k ∷ []) (between h g) w = absurd (w .1 .0 g)
-
--- none starts at an address that none covers
-pub starts-apart : (p b : ℕ) (l : List FreeRegion) → All (λ q. WholeRange p (q .start .0) (q .size)) l → coverFree l b ≡ 0 → All (λ q. from q ≡ b → ⊥) l
-starts-apart p b [] w c = tt
-starts-apart p b (q ∷ l) w c = (
-  λ e. omega (arith, within-in (from q) (q .size) b (omega arith) (omega (arith, w .0 .size .positive))),
-  starts-apart p b l (w .1) (omega arith),
-)

@@ -2,7 +2,7 @@
 -- table, so its rest starts a hole of its own, which a rollback only makes larger. Assumes nothing.
 use mathlib.Core.Path.{_≡_, refl}
 use mathlib.Core.Logic.{_⊎_, inl, inr, ⊎-elim}
-use mathlib.Core.Bool.{Bool, true, false, _||_, not}
+use mathlib.Core.Bool.{true, false, not}
 use mathlib.Core.List.{List, [], _∷_, _++_}
 use mathlib.Core.Option.{Option, some, none}
 use Prim.Native.Nat.{ℕ, _+_, _-_, _≤_, _<_, _%_, _^_}
@@ -11,7 +11,7 @@ use borrow.Author.Tests.{leb-true, eqb-true, eqb-false, not-true, not-false}
 use lib.Dec.{leb, eqb}
 use lib.ListN.{length, length-append}
 use Rattle.lists.specs.Tests.{every}
-use Rattle.lists.proofs.Tests.{both, cases-lt, cases-eq}
+use Rattle.lists.proofs.Tests.{both, either, cases-lt, cases-eq}
 use Rattle.lists.proofs.Members.{member-all}
 use Rattle.words.specs.Answers.{valueOf, failed}
 use Rattle.words.specs.declared.Address.{Address}
@@ -23,7 +23,7 @@ use Rattle.tables.specs.declared.Hole.{Hole}
 use Rattle.tables.specs.declared.Outcome.the-variants.{ReserveFailed, Incredible}
 use Rattle.keeping.specs.Cover.{within, coverHoles, coverRoots}
 use Rattle.keeping.specs.Sound as S
-use Rattle.keeping.specs.Sound.{Whole, WholeRange, Sound, Ceilings, Kept, Left}
+use Rattle.keeping.specs.Sound.{Whole, WholeRange, Sound, Kept, Left}
 use Rattle.keeping.specs.Counts.{Few, Known, Making}
 use Rattle.keeping.specs.Holds.{Holds}
 use Rattle.keeping.proofs.Cover.{within-le, within-out, within-cut}
@@ -40,15 +40,9 @@ use Rattle.keeping.proofs.Holes.{
   all-cutHole,
   length-cutHole,
 }
-use Rattle.keeping.proofs.Hands.{sound-holes, sound-root, hand-once, sound-hole}
+use Rattle.keeping.proofs.Sounds.{sound-holes, sound-root, hand-once, sound-hole}
+use Rattle.keeping.proofs.Counts.{few-ceilings}
 use Rattle.keeping.proofs.Holds.{holds-then, holds-looked, holds-change, holds-endIf, holds-drive, holds-give, holds-to, drives-reserve}
-
-pub ceilings-few : {k c : ℕ} {t : Tables} → c ≤ 128 → Few k c t → Ceilings t
-ceilings-few h f = record { pages = omega arith; spans = omega arith; zombies = f .zombies; holes = f .holes; roots = f .roots }
-
-either : (a b : Bool) → (a || b) ≡ true → (a ≡ true) ⊎ (b ≡ true)
-either true b e = inl refl
-either false b e = inr e
 
 -- a base that overlaps no root: none of its addresses is in one
 clear-roots : (va b x : ℕ) (l : List Address) → every (λ a. apart va b (a .0)) l ≡ true → b ≤ x → x < b + va → coverRoots va l x ≡ 0
@@ -73,13 +67,10 @@ is-credible b t small e =
     let g = both (eqb (b % t .page) 0) _ (f .1) in
     let h = both (leb b (2 ^ 63 - t .va)) _ (g .1) in
     record {
-      start = record { positive = positive (eqb-false b 0 (not-true (eqb b 0) (f .0))); aligned = eqb-true (b % t .page) 0 (g .0) };
+      start = record { positive = omega (arith, eqb-false b 0 (not-true (eqb b 0) (f .0))); aligned = eqb-true (b % t .page) 0 (g .0) };
       fits = omega (arith, leb-true b (2 ^ 63 - t .va) (h .0));
       fresh = λ x. clear-roots (t .va) b x (t .roots) (h .1);
     }
-  where
-    positive : (b ≡ 0 → ⊥) → 0 < b
-    positive ne = ⊎-elim (λ e. absurd (ne e)) (λ e. omega arith) (cases-eq b 0)
 
 -- a root at `b` is added to the tables `u`, its rest after `n` bytes a hole
 abbrev pub rooted : ℕ → ℕ → Tables → Tables
@@ -94,7 +85,7 @@ pub record Reserved (lost : ℕ → ℕ) (n : ℕ) (u : Tables) (b : ℕ) (t : T
 module _ (lost : ℕ → ℕ) (n : ℕ) (u : Tables) (kept : Kept lost u) (most : n ≤ u .va) (size : (n ≡ 0) ⊎ Whole (u .page) n) where
   sound-rooted : (b : ℕ) → Credible b u → Sound lost (within b n) S.none (rooted n b u)
   sound-rooted b c =
-      sound-hole (within b n) (sound-root (within b (u .va)) (kept .sound) b (c .start) (c .fits) once (λ x. omega arith))
+      sound-hole (sound-root (kept .sound) b (c .start) (c .fits) once)
       (b + n) (u .va - n) (λ x. omega (arith, within-cut b (u .va) n x most)) (rest size)
     where
       once : (x : ℕ) → within b (u .va) x + coverRoots (u .va) (u .roots) x ≤ 1
@@ -113,7 +104,7 @@ module _ (lost : ℕ → ℕ) (n : ℕ) (u : Tables) (kept : Kept lost u) (most 
           let f : b + n ≡ b = omega arith in
           let g : u .va - n ≡ u .va = omega arith in
           rw (f, g) (record { start = c .start; size = kept .sound .va })
-      rest (inr w) p = whole-upper n (record { start = c .start; size = kept .sound .va }) w (omega arith)
+      rest (inr w) p = whole-upper n (record { start = c .start; size = kept .sound .va }) (w .aligned) (omega arith)
 
   pub reserves-root : Holds (λ t. t ≡ u) (reserveRoot n) (Reserved lost n u) (Left lost)
   unfolding reserveRoot
@@ -155,7 +146,7 @@ module _ (lost : ℕ → ℕ) (p f k n : ℕ) (u : Tables) (given : TakesFrom lo
       let apart = given .sound .holesApart in
       record {
         sound =
-            sound-holes (within (from h) n) (given .sound) (cutHole n (from h) (u .holes))
+            sound-holes (given .sound) (cutHole n (from h) (u .holes))
             (all-cutHole (u .page) n 0 (2 ^ 63) h (u .holes) apart (m .0) (m .1) (given .size) (given .sound .holes))
             (apart-cutHole n 0 (2 ^ 63) h (u .holes) apart (m .0) (m .1))
             (λ x. omega (arith, cover-cutHole n 0 (2 ^ 63) h (u .holes) x apart (m .0) (m .1)));
@@ -188,7 +179,7 @@ module _ (lost : ℕ → ℕ) (p f k n : ℕ) (u : Tables) (given : TakesFrom lo
           let x = b + n - 1 in
           let y : x + 1 ≡ b + n = omega arith in
           let bare : coverHoles (u .holes) x ≡ 0 = omega (arith, given .sound .covered x, r .fresh x (omega arith) (omega arith)) in
-          length-hole-touch b n 0 (2 ^ 63) (rest b) (s .holesApart) (hand-once S.none s b n (λ x. omega arith))
+          length-hole-touch b n 0 (2 ^ 63) (rest b) (s .holesApart) (hand-once s b n (λ x. omega arith))
           (starts-hole (b + n) (u .va - n) (u .holes) q (rw y at (ends-nowhere x 0 (2 ^ 63) (u .holes) (given .sound .holesApart) bare)))
 
       -- the rest starts a hole of its own, or there is none
@@ -224,7 +215,7 @@ module _ (lost : ℕ → ℕ) (p f k n : ℕ) (u : Tables) (given : TakesFrom lo
   unfolding takeHole
   takes none e =
       holds-to (taken-root (given .root (rw e)))
-      (reserves-root lost n u (record { sound = given .sound; ceilings = ceilings-few (omega arith) (given .few) }) (given .most) (inr (given .size)))
+      (reserves-root lost n u (record { sound = given .sound; ceilings = few-ceilings (omega arith) (given .few) }) (given .most) (inr (given .size)))
   takes (some h) e = holds-then (λ _. TakenRange lost p f k n (from h)) (holds-change _ (λ t q. rw q (taken-hole h e))) (λ _. holds-give (from h))
 
 pub takes-range : (lost : ℕ → ℕ) (p f k n : ℕ) → Holds (TakesFrom lost p f k n) (takeRange n) (TakenRange lost p f k n) (Left lost)

@@ -1,7 +1,7 @@
 -- What an entry point knows after its refusals: the tables of an open pool that is well formed, read in order, are sound. What the roots hold and no
 -- table covers is lost; each range is inside the roots and no two overlap, so that what is covered is no more than the roots hold. Assumes nothing.
 use mathlib.Core.Path.{_≡_, refl, ap, _∙_, sym}
-use mathlib.Core.Logic.{inr, ⊎-elim}
+use mathlib.Core.Logic.{⊎-elim}
 use mathlib.Core.Bool.{true, _&&_, _||_}
 use mathlib.Core.List.{List, [], _∷_}
 use Prim.Native.Nat.{ℕ, _+_, _-_, _%_, _≤_, _<_, _^_}
@@ -11,21 +11,20 @@ use lib.Dec.{leb, eqb}
 use lib.ListN.{length, take, length-take}
 use Rattle.lists.specs.Tests.{All}
 use Rattle.lists.specs.Order.{sorted, Ascends, Rises}
-use Rattle.lists.proofs.Tests.{both, cases-lt, cases-eq}
-use Rattle.lists.proofs.Every.{Pairs, all-implies, all-both, all-unmap, pairs-implies, pairs-both, pairs-all, pairs-unmap}
+use Rattle.lists.proofs.Tests.{both, cases-lt, cases-eq, all-implies, all-both}
+use Rattle.lists.proofs.Every.{Pairs}
+use Rattle.lists.proofs.Maps.{all-unmap, sum-map}
+use Rattle.lists.proofs.Pairs.{pairs-implies, pairs-both, pairs-all, pairs-unmap, ascends-pairs, pairs-rises}
 use Rattle.lists.proofs.Order.{length-sorted, sorted-ascends}
-use Rattle.lists.proofs.Pairs.{ascends-pairs, pairs-rises}
-use Rattle.lists.proofs.SumLaws.{sum-map, sum-none}
-use Rattle.words.specs.declared.Address.{Address}
 use Rattle.tables.specs.Values.{Tables, tablesOf, inOrder, atEntry, opened, stopped, freeOf, liveOf, holesOf, zombiesOf, pagesOf, rootsOf}
 use Rattle.tables.specs.InsertHole.{from, upto, Apart}
 use Rattle.tables.specs.WellFormed.{range, spans, ranges, ceilingsKept, sound, wellFormed}
 use Rattle.tables.specs.declared.Hole.{Hole}
 use Rattle.tables.specs.declared.Pool.{Pool}
-use Rattle.keeping.specs.Cover.{within, equal, coverFree, coverLive, coverRoots, pagesAt}
+use Rattle.keeping.specs.Cover.{within, equal, coverFree, coverLive, pagesAt}
 use Rattle.keeping.specs.Sound.{none, Whole, WholeRange, Sound, Ceilings, Kept}
-use Rattle.keeping.proofs.Cover.{within-in, within-out}
-use Rattle.keeping.proofs.Counting.{keysAt, once-differ, differ-once, coverAt, parted-once, ordered, cover-le}
+use Rattle.keeping.proofs.Cover.{within-in}
+use Rattle.keeping.proofs.Counting.{keysAt, once-differ, differ-once, coverAt, parted-once, ordered, cover-le, cover-past}
 use Rattle.keeping.proofs.Inside.{inside-covered}
 use Rattle.keeping.proofs.PageStarts.{WholeSpan, count-pages, whole-pages, unaligned-none}
 use Rattle.keeping.proofs.Ranges.{OfEach, spansInOrder, cover-inOrder, all-inOrder, tablesAt, rootsAt, cover-ranges, each-of}
@@ -43,12 +42,6 @@ rises-ranges lo size p l w s c = pairs-rises lo 0 l (all-implies _ (λ a. 0 < lo
     less =
         pairs-implies (λ a b. ((0 < size a) × (0 < size b)) × (lo a + size a ≤ lo b)) (λ a b. lo a < lo b) (λ a b q. omega arith) l
         (pairs-both _ _ l (pairs-all (λ a. 0 < size a) l sized) (ordered lo size 0 l sized s c))
-
--- no root covers an address past the end of all
-cover-high : (va m : ℕ) (l : List Address) → All (λ a. a .0 + va ≤ m) l → (x : ℕ) → m ≤ x → coverRoots va l x ≡ 0
-cover-high va m l a x h =
-    sum-none (λ a. within (a .0) va x) l
-    (all-implies (λ a. a .0 + va ≤ m) (λ a. within (a .0) va x ≡ 0) (λ a p. within-out (a .0) va x (inr (omega arith))) l a)
 
 -- holes that do not touch, pair by pair
 pairs-apart : (b m : ℕ) (l : List Hole) → b ≤ m → All (λ h. b < from h) l → All (λ h. (0 < h .size) × (upto h ≤ m)) l → Pairs (λ h k. upto h < from k) l →
@@ -99,7 +92,7 @@ module _ (t : Tables) (c : Clauses t) (o : Ordered t) where
             arith,
             f x,
             within-in (from h) (h .size) x (omega arith) (omega arith),
-            cover-high (t .va) (2 ^ 63) (t .roots) (all-implies _ _ (λ a r. r .1) (t .roots) (c .roots)) x (omega arith),
+            cover-past (λ a. a .0) (λ a. t .va) (2 ^ 63) x (t .roots) (all-implies _ _ (λ a r. r .1) (t .roots) (c .roots)) (omega arith),
           )
 
   holes-apart : Apart 0 (2 ^ 63) (t .holes)
@@ -121,7 +114,7 @@ module _ (t : Tables) (c : Clauses t) (o : Ordered t) where
 
   pages-match : (x : ℕ) → x % t .page ≡ 0 → pagesAt (t .pages) x ≡ coverFree (t .free) x + coverLive (t .live) x
   pages-match x e =
-      sym (sum-map (λ s. equal s x) (λ g. g .start .0) (t .pages))
+      sym (sum-map (λ g. g .start .0) (λ s. equal s x) (t .pages))
       ∙ ap (λ l. keysAt (λ s. s) l x) (c .pages)
       ∙ count-pages (t .page) (c .page) (spansInOrder t) (all-inOrder t (WholeSpan (t .page)) (c .whole)) x e
       ∙ cover-inOrder t x

@@ -11,11 +11,11 @@ use lib.Dec.{leb}
 use lib.ListN.{length}
 use Rattle.lists.specs.Tests.{All}
 use Rattle.lists.specs.Order.{sorted, Rises}
-use Rattle.lists.proofs.Tests.{cases-eq}
-use Rattle.lists.proofs.Every.{Pairs, and-true, all-implies, pairs-implies, pairs-map}
+use Rattle.lists.proofs.Tests.{cases-eq, all-implies}
+use Rattle.lists.proofs.Every.{Pairs, and-true}
+use Rattle.lists.proofs.Pairs.{rises-above, pairs-implies, pairs-map, rises-pairs}
 use Rattle.lists.proofs.Order.{sorted-ascends, sorted-same, rises-ascends}
-use Rattle.lists.proofs.Pairs.{rises-pairs, pairs-rises}
-use Rattle.lists.proofs.SumLaws.{sum-map}
+use Rattle.lists.proofs.Maps.{sum-map}
 use Rattle.tables.specs.Values.{address, page, Tables, inOrder, atEntry, poolOf, opened, packFree, packLive, packHoles, packZombies, packPages, packRoots}
 use Rattle.tables.specs.InsertHole.{from, upto, Apart}
 use Rattle.tables.specs.WellFormed.{spans, ranges, holesIn, ceilingsKept, sound, wellFormed}
@@ -24,23 +24,16 @@ use Rattle.tables.proofs.Packs.{tables-pool}
 use Rattle.keeping.specs.Cover.{within, equal, pagesAt}
 use Rattle.keeping.specs.Sound.{none, Sound, Ceilings, Kept}
 use Rattle.keeping.proofs.Counting.{keysAt, once-differ, counts-same, once-parted, ordered, all-cover}
+use Rattle.keeping.proofs.Holes.{apart-rises}
 use Rattle.keeping.proofs.Inside.{covered-inside}
 use Rattle.keeping.proofs.PageStarts.{WholeSpan, pageStarts, count-pages, whole-pages, rise-pages, unaligned-none}
 use Rattle.keeping.proofs.Ranges.{tablesAt, rootsAt, ofHole, spansInOrder, cover-inOrder, all-inOrder, cover-ranges, of-each}
 use Rattle.keeping.proofs.WellFormedTests.{Loose, Clauses, clauses-pass}
 
--- holes in order: all above the bound, and pair by pair
-apart-above : (b m : ℕ) (l : List Hole) → Apart b m l → All (λ h. b < from h) l
-apart-above b m [] w = tt
-apart-above b m (h ∷ l) w = (w .0, all-implies (λ k. upto h < from k) (λ k. b < from k) (λ k p. omega arith) l (apart-above (upto h) m l (w .1 .1)))
-
+-- holes in order, pair by pair
 apart-pairs : (b m : ℕ) (l : List Hole) → Apart b m l → Pairs (λ h k. upto h < from k) l
 apart-pairs b m [] w = tt
-apart-pairs b m (h ∷ l) w = (apart-above (upto h) m l (w .1 .1), apart-pairs (upto h) m l (w .1 .1))
-
-apart-rises : (b m : ℕ) (l : List Hole) → Apart b m l → Rises from b l
-apart-rises b m l w =
-    pairs-rises from b l (apart-above b m l w) (pairs-implies (λ h k. upto h < from k) (λ h k. from h < from k) (λ h k p. omega arith) l (apart-pairs b m l w))
+apart-pairs b m (h ∷ l) w = (rises-above from (upto h) l (apart-rises (upto h) m l (w .1 .1)), apart-pairs (upto h) m l (w .1 .1))
 
 module _ (lost : ℕ → ℕ) (t : Tables) (s : Sound lost none none t) where
   tables-held : (x : ℕ) → tablesAt t x ≤ rootsAt t x
@@ -83,7 +76,7 @@ module _ (lost : ℕ → ℕ) (t : Tables) (s : Sound lost none none t) where
       counts-same (map (λ g. g .start .0) (t .pages)) (pageStarts (t .page) (spansInOrder t))
       (pairs-map (λ g. g .start .0) (λ a b. a < b) (t .pages) (rises-pairs (λ g. g .start .0) 0 (t .pages) (s .pagesRise)))
       (rise-pages (t .page) (s .page) (spansInOrder t) spans-whole spans-rise)
-      (λ x. sum-map (λ a. equal a x) (λ g. g .start .0) (t .pages) ∙ pages-count x)
+      (λ x. sum-map (λ g. g .start .0) (λ a. equal a x) (t .pages) ∙ pages-count x)
 
   sound-clauses : Clauses t
   sound-clauses =
@@ -123,7 +116,7 @@ module _ (lost : ℕ → ℕ) (t : Tables) (s : Sound lost none none t) where
       rises-sorted : {A : Type 0} (key : A → ℕ) (l : List A) → Rises key 0 l → sorted key l ≡ l
       rises-sorted key l r = sorted-same key 0 l (rises-ascends key 0 l r)
 
-ceilings-pass : (state : ℕ) (t : Tables) → Ceilings t → ceilingsKept (poolOf state t) ≡ true
+pub ceilings-pass : (state : ℕ) (t : Tables) → Ceilings t → ceilingsKept (poolOf state t) ≡ true
 unfolding ceilingsKept poolOf packFree packLive packHoles packZombies packPages packRoots
 ceilings-pass state t c =
     and-true (leb (length (t .pages)) 256) _ (le-leb (length (t .pages)) 256 (c .pages))

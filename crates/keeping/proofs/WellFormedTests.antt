@@ -1,7 +1,7 @@
 -- The test of document 01's clauses passes just where they hold: each clause of `sound` as a fact, from the test and back. Assumes nothing.
-use mathlib.Core.Path.{_≡_, refl}
+use mathlib.Core.Path.{_≡_}
 use mathlib.Core.Logic.{⊎-elim}
-use mathlib.Core.Bool.{Bool, true, false, _&&_, _||_, not}
+use mathlib.Core.Bool.{true, _&&_, not}
 use mathlib.Core.List.{map}
 use Prim.Native.Nat.{ℕ, _+_, _-_, _%_, _≤_, _<_, _^_}
 use native.Mathlib.Omega.{arith}
@@ -9,7 +9,7 @@ use borrow.Author.Tests.{ltb-true, leb-true, eqb-true, eqb-false, not-true, lt-l
 use lib.Dec.{leb, eqb, ltb}
 use Rattle.lists.specs.Tests.{All, every}
 use Rattle.lists.specs.Order.{sorted}
-use Rattle.lists.proofs.Tests.{both, cases-lt}
+use Rattle.lists.proofs.Tests.{both, either, cases-lt}
 use Rattle.lists.proofs.Every.{Pairs, and-true, every-all, all-every, pairwise-pairs, pairs-pairwise}
 use Rattle.lists.proofs.Pairs.{same-is, is-same}
 use Rattle.words.specs.declared.Address.{Address}
@@ -94,11 +94,9 @@ of-wholeSpan : (p : ℕ) (h : Range) → WholeSpan p h → (whole p (h .from) &&
 of-wholeSpan p h w = and-true (whole p (h .from)) (whole p (h .size)) (of-whole p (h .from) (w .start)) (of-whole p (h .size) (w .size))
 
 apart-of : (va : ℕ) (a b : Address) → apart va (a .0) (b .0) ≡ true → Parted (λ a. a .0) (λ a. va) a b
-apart-of va a b e = go (leb (a .0 + va) (b .0)) refl e
-  where
-    go : (u : Bool) → leb (a .0 + va) (b .0) ≡ u → (u || leb (b .0 + va) (a .0)) ≡ true → Parted (λ a. a .0) (λ a. va) a b
-    go true f e = omega (arith, leb-true (a .0 + va) (b .0) f)
-    go false f e = omega (arith, leb-true (b .0 + va) (a .0) e)
+apart-of va a b e =
+    ⊎-elim (λ f. omega (arith, leb-true (a .0 + va) (b .0) f)) (λ f. omega (arith, leb-true (b .0 + va) (a .0) f))
+    (either (leb (a .0 + va) (b .0)) (leb (b .0 + va) (a .0)) e)
 
 of-apart : (va : ℕ) (a b : Address) → Parted (λ a. a .0) (λ a. va) a b → apart va (a .0) (b .0) ≡ true
 of-apart va a b r =

@@ -1,4 +1,4 @@
--- Laws of the tests of a list. Assumes nothing.
+-- Laws of the tests of a list, and of what holds of every element. Assumes nothing.
 use mathlib.Core.Path.{_≡_, refl, _∙_, sym}
 use mathlib.Core.Logic.{_⊎_, inl, inr}
 use mathlib.Core.Bool.{Bool, true, false, cond, _&&_, _||_, false≢true}
@@ -10,7 +10,7 @@ use native.Mathlib.Decide.{decLt, ℕ-discrete}
 use borrow.Author.Tests.{le-leb, lt-leb, lt-ltb, le-ltb, eq-eqb, ne-eqb}
 use lib.ListN.{length, getD, set, take, replicate, length-map, length-take}
 use lib.Seq.{getD-take}
-use Rattle.lists.specs.Tests.{All, every, filter}
+use Rattle.lists.specs.Tests.{All, every, any, filter}
 use Rattle.lists.specs.Places.{insertAt}
 
 -- the length of an array of structs, which is known of the list that its elements are mapped to
@@ -35,11 +35,23 @@ pub neither : (a b : Bool) → (a || b) ≡ false → (a ≡ false) × (b ≡ fa
 neither true b e = absurd (false≢true (sym e))
 neither false b e = (refl, e)
 
+pub either : (a b : Bool) → (a || b) ≡ true → (a ≡ true) ⊎ (b ≡ true)
+either true b e = inl refl
+either false b e = inr e
+
 pub not-both : (a b : Bool) → (a && b) ≡ false → a ≡ true → b ≡ false
 not-both true b e h = e
 not-both false b e h = absurd (false≢true h)
 
 module _ {ℓ} {A : Type ℓ} where
+  pub all-implies : (P Q : A → Type 0) → ((x : A) → P x → Q x) → (l : List A) → All P l → All Q l
+  all-implies P Q f [] a = tt
+  all-implies P Q f (x ∷ l) a = (f x (a .0), all-implies P Q f l (a .1))
+
+  pub all-both : (P Q : A → Type 0) (l : List A) → All P l → All Q l → All (λ x. P x × Q x) l
+  all-both P Q [] a b = tt
+  all-both P Q (x ∷ l) a b = ((a .0, b .0), all-both P Q l (a .1) (b .1))
+
   module _ (P : A → Type 0) where
     pub all-insertAt : (i : ℕ) (a : A) (l : List A) → P a → All P l → All P (insertAt i a l)
     all-insertAt zero a l p q = (p, q)
@@ -60,6 +72,15 @@ module _ {ℓ} {A : Type ℓ} where
     pub all-append : (l m : List A) → All P l → All P m → All P (l ++ m)
     all-append [] m a b = b
     all-append (x ∷ l) m a b = (a .0, all-append l m (a .1) b)
+
+    -- of two lists in one: of the first, and of the second
+    pub all-first : (l m : List A) → All P (l ++ m) → All P l
+    all-first [] m a = tt
+    all-first (x ∷ l) m a = (a .0, all-first l m (a .1))
+
+    pub all-second : (l m : List A) → All P (l ++ m) → All P m
+    all-second [] m a = a
+    all-second (x ∷ l) m a = all-second l m (a .1)
 
     pub all-filter : (p : A → Bool) (l : List A) → All P l → All P (filter p l)
     all-filter p [] a = a
@@ -85,6 +106,13 @@ module _ {ℓ} {A : Type ℓ} where
       go : (b : Bool) → length (filter p l) ≤ length l → length (cond b (x ∷ filter p l) (filter p l)) ≤ suc (length l)
       go true h = omega arith
       go false h = omega arith
+
+  -- where none passes, each does not
+  pub any-none : (p : A → Bool) (l : List A) → any p l ≡ false → All (λ x. p x ≡ false) l
+  any-none p [] e = tt
+  any-none p (x ∷ l) e =
+      let q = neither (p x) (any p l) e in
+      (q .0, any-none p l (q .1))
 
   -- what passes a test that knows only `z` is `z`, as often as the list is long
   pub every-same : (p : A → Bool) (z : A) → ((x : A) → p x ≡ true → x ≡ z) → (l : List A) → every p l ≡ true → l ≡ replicate (length l) z

@@ -1,22 +1,12 @@
--- Laws of walks and sums. Assumes nothing.
+-- Laws of sums over a list: over two lists in one, over those that pass a test, over what is joined, and term by term. Assumes nothing.
 use mathlib.Core.Path.{_≡_, refl}
 use mathlib.Core.Bool.{Bool, true, false, cond, not}
-use mathlib.Core.List.{List, [], _∷_, _++_, append-assoc}
-use Prim.Native.Nat.{ℕ, suc, _+_}
+use mathlib.Core.List.{List, [], _∷_, _++_}
+use Prim.Native.Nat.{ℕ, _+_, _<_}
 use native.Mathlib.Omega.{arith}
 use lib.ListN.{length}
-use Rattle.lists.specs.Tests.{filter}
-use Rattle.lists.specs.Walks.{walk, sum, joined}
-
--- a walk over two lists goes over the first, then over the second
-pub walk-append {ℓ ℓ′} : {A : Type ℓ} {S : Type ℓ′} (f : ℕ → S → A → S) (i : ℕ) (s : S) (l m : List A) →
-    walk f i s (l ++ m) ≡ walk f (i + length l) (walk f i s l) m
-walk-append f i s [] m =
-    let e : i + 0 ≡ i = omega arith in
-    rw e
-walk-append f i s (x ∷ l) m =
-    let e : i + suc (length l) ≡ (i + 1) + length l = omega arith in
-    rw e (walk-append f (i + 1) (f i s x) l m)
+use Rattle.lists.specs.Tests.{All, filter}
+use Rattle.lists.specs.Walks.{sum, joined}
 
 module _ {ℓ} {A : Type ℓ} (f : A → ℕ) where
   pub sum-append : (l m : List A) → sum f (l ++ m) ≡ sum f l + sum f m
@@ -33,6 +23,25 @@ module _ {ℓ} {A : Type ℓ} (f : A → ℕ) where
       go true h = omega arith
       go false h = omega arith
 
-pub joined-append {ℓ ℓ′} : {A : Type ℓ} {B : Type ℓ′} (f : A → List B) (l m : List A) → joined f (l ++ m) ≡ joined f l ++ joined f m
-joined-append f [] m = refl
-joined-append f (x ∷ l) m = rw (append-assoc, joined-append f l m)
+module _ {ℓ} {A : Type ℓ} where
+  pub sum-equal : (f g : A → ℕ) (l : List A) → All (λ x. f x ≡ g x) l → sum f l ≡ sum g l
+  sum-equal f g [] a = refl
+  sum-equal f g (x ∷ l) a = omega (arith, a .0, sum-equal f g l (a .1))
+
+  pub sum-none : (f : A → ℕ) (l : List A) → All (λ x. f x ≡ 0) l → sum f l ≡ 0
+  sum-none f [] a = refl
+  sum-none f (x ∷ l) a = omega (arith, a .0, sum-none f l (a .1))
+
+  -- what is not 0 is the sum of some
+  pub sum-some : (f : A → ℕ) (l : List A) → 0 < sum f l → 0 < length l
+  sum-some f [] h = h
+  sum-some f (x ∷ l) h = omega arith
+
+  -- a length is a sum too
+  pub length-sum : (l : List A) → length l ≡ sum (λ x. 1) l
+  length-sum [] = refl
+  length-sum (x ∷ l) = omega (arith, length-sum l)
+
+pub sum-joined {ℓ ℓ′} : {A : Type ℓ} {B : Type ℓ′} (f : B → ℕ) (g : A → List B) (l : List A) → sum f (joined g l) ≡ sum (λ x. sum f (g x)) l
+sum-joined f g [] = refl
+sum-joined f g (x ∷ l) = omega (arith, sum-append f (g x) (joined g l), sum-joined f g l)

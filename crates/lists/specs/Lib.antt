@@ -5,4 +5,5 @@ pub mod Walks
 pub mod Cells
 pub mod Scan
 pub mod InOrder
-pub mod Ordered
+pub mod Scans
+pub mod Sorting

@@ -3,7 +3,7 @@
 use mathlib.Core.Bool.{and-false}
 use Prim.Native.Nat.{_+_, _-_, _≤_, _^_}
 use borrow.Author.Tests.{eq-eqb, ne-eqb, le-leb, lt-leb}
-use Rattle.lists.proofs.Maps.{all-to}
+use Rattle.lists.proofs.Tests.{all-implies}
 use Rattle.tables.specs.Values.{rootsOf}
 use borrow.Author.Needs.{needs}
 use native.Mathlib.Omega.{arith}
@@ -30,7 +30,7 @@ is-apart-from-all-requires c κs =
     let s = c .before .before .before in
     let a = s .args in
     let k = s .pre in
-    (k .0 .0, (omega arith, all-to (λ r. r .0 ≤ 2 ^ 63 - a .va) (λ r. r .0 + a .va ≤ 2 ^ 63) (rootsOf (a .t)) (λ r h. omega (arith, k .1 .0)) (k .1 .1)))
+    (k .0 .0, (omega arith, all-implies (λ r. r .0 ≤ 2 ^ 63 - a .va) (λ r. r .0 + a .va ≤ 2 ^ 63) (λ r h. omega (arith, k .1 .0)) (rootsOf (a .t)) (k .1 .1)))
 
 returns-4 : tie.Need-returns-4
 returns-4 c =

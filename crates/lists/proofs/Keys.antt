@@ -1,0 +1,76 @@
+-- Laws of lists whose keys rise, in the code's terms: the element of a key stands at the first place whose key is not below it, and what is done to that
+-- element alone is done at its place. Assumes nothing.
+use mathlib.Core.Path.{_≡_, refl, ap}
+use mathlib.Core.Logic.{inl, inr}
+use mathlib.Core.Bool.{Bool, true, false, cond}
+use mathlib.Core.List.{List, [], _∷_, map}
+use Prim.Native.Nat.{ℕ, zero, suc, _≤_, _<_}
+use native.Mathlib.Omega.{arith}
+use native.Mathlib.Nat.{le-of-suc-le-suc}
+use borrow.Author.Tests.{eq-eqb, ne-eqb, leb-true, leb-false}
+use lib.Dec.{leb, eqb}
+use lib.ListN.{length, getD, set}
+use Rattle.lists.specs.Places.{removeAt, place}
+use Rattle.lists.specs.Tests.{Member}
+use Rattle.lists.specs.Order.{Rises, without}
+use Rattle.lists.proofs.Order.{without-none}
+use Rattle.lists.proofs.Members.{member-above}
+
+module _ {A : Type 0} (key : A → ℕ) where
+  pub without-at : (k b : ℕ) (l : List A) (d : A) → Rises key b l → place (λ x. leb k (key x)) l < length l →
+      key (getD l (place (λ x. leb k (key x)) l) d) ≡ k → without key k l ≡ removeAt (place (λ x. leb k (key x)) l) l
+  without-at k b [] d r h e = absurd (omega arith)
+  without-at k b (x ∷ l) d r h e = go (leb k (key x)) refl (without-at k (key x) l d (r .1)) h e
+    where
+      p : ℕ
+      p = place (λ x. leb k (key x)) l
+
+      go : (t : Bool) → leb k (key x) ≡ t → (p < length l → key (getD l p d) ≡ k → without key k l ≡ removeAt p l) → cond t 0 (suc p) < suc (length l) →
+          key (getD (x ∷ l) (cond t 0 (suc p)) d) ≡ k → without key k (x ∷ l) ≡ removeAt (cond t 0 (suc p)) (x ∷ l)
+      go true t f h e = rw (eq-eqb (key x) k e) (without-none key k (key x) l (omega arith) (r .1))
+      go false t f h e =
+          let below : key x < k = leb-false k (key x) t in
+          rw (ne-eqb (key x) k (λ q. omega arith)) (ap (λ m. x ∷ m) (f (le-of-suc-le-suc h) e))
+
+  pub without-past : (k b : ℕ) (l : List A) (d : A) → Rises key b l →
+      (place (λ x. leb k (key x)) l < length l → key (getD l (place (λ x. leb k (key x)) l) d) ≡ k → ⊥) → without key k l ≡ l
+  without-past k b [] d r n = refl
+  without-past k b (x ∷ l) d r n = go (leb k (key x)) refl (without-past k (key x) l d (r .1)) n
+    where
+      p : ℕ
+      p = place (λ x. leb k (key x)) l
+
+      go : (t : Bool) → leb k (key x) ≡ t → ((p < length l → key (getD l p d) ≡ k → ⊥) → without key k l ≡ l) →
+          (cond t 0 (suc p) < suc (length l) → key (getD (x ∷ l) (cond t 0 (suc p)) d) ≡ k → ⊥) → without key k (x ∷ l) ≡ x ∷ l
+      go true t f n =
+          let above : k ≤ key x = leb-true k (key x) t in
+          rw (ne-eqb (key x) k (λ q. n (omega arith) q)) (ap (λ m. x ∷ m) (without-none key k (key x) l (omega arith) (r .1)))
+      go false t f n =
+          let below : key x < k = leb-false k (key x) t in
+          rw (ne-eqb (key x) k (λ q. omega arith)) (ap (λ m. x ∷ m) (f (λ h e. n (omega arith) e)))
+
+  -- no key twice: one key is one element
+  pub rises-same : (b : ℕ) (x y : A) (l : List A) → Rises key b l → Member x l → Member y l → key x ≡ key y → x ≡ y
+  rises-same b x y (z ∷ l) r (inl p) (inl q) e = cc
+  rises-same b x y (z ∷ l) r (inl p) (inr n) e = absurd (let a : key z < key y = member-above key (key z) y l (r .1) n in omega (arith, ap key p))
+  rises-same b x y (z ∷ l) r (inr m) (inl q) e = absurd (let a : key z < key x = member-above key (key z) x l (r .1) m in omega (arith, ap key q))
+  rises-same b x y (z ∷ l) r (inr m) (inr n) e = rises-same (key z) x y l (r .1) m n e
+
+  rises-at : (b : ℕ) (l : List A) (i : ℕ) (d : A) → Rises key b l → i < length l → b < key (getD l i d)
+  rises-at b [] i d r h = absurd (omega arith)
+  rises-at b (x ∷ l) zero d r h = r .0
+  rises-at b (x ∷ l) (suc i) d r h = omega (arith, r .0, rises-at (key x) l i d (r .1) (le-of-suc-le-suc h))
+
+  module _ (f : A → A) where
+    map-none : (k b : ℕ) (l : List A) → k ≤ b → Rises key b l → map (λ q. cond (eqb (key q) k) (f q) q) l ≡ l
+    map-none k b [] h r = refl
+    map-none k b (x ∷ l) h r = rw (ne-eqb (key x) k (λ e. omega (arith, r .0))) (ap (λ m. x ∷ m) (map-none k (key x) l (omega (arith, r .0)) (r .1)))
+
+    -- the one element of a key changed, as the code does it: a store at its place
+    pub map-key : (b : ℕ) (l : List A) (i : ℕ) (d : A) → Rises key b l → i < length l →
+        map (λ q. cond (eqb (key q) (key (getD l i d))) (f q) q) l ≡ set l i (f (getD l i d))
+    map-key b [] i d r h = absurd (omega arith)
+    map-key b (x ∷ l) zero d r h = rw (eq-eqb (key x) (key x) refl) (ap (λ m. f x ∷ m) (map-none (key x) (key x) l (omega arith) (r .1)))
+    map-key b (x ∷ l) (suc i) d r h =
+        let above : key x < key (getD l i d) = rises-at (key x) l i d (r .1) (le-of-suc-le-suc h) in
+        rw (ne-eqb (key x) (key (getD l i d)) (λ e. omega arith)) (ap (λ m. x ∷ m) (map-key (key x) l i d (r .1) (le-of-suc-le-suc h)))

@@ -1,0 +1,4 @@
+pub mod Merging
+pub mod Choosing
+pub mod Pulling
+pub mod Ordering
