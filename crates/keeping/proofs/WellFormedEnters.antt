@@ -171,7 +171,7 @@ length-first n l = omega (arith, length-take n l)
 length-inOrder : {A : Type 0} (key : A → ℕ) (n : ℕ) (l : List A) → length (sorted key (take n l)) ≤ n
 length-inOrder key n l = omega (arith, length-sorted key (take n l), length-first n l)
 
-ceilings-read : (p : Pool) → ceilingsKept p ≡ true → Ceilings (atEntry p)
+pub ceilings-read : (p : Pool) → ceilingsKept p ≡ true → Ceilings (atEntry p)
 unfolding ceilingsKept tablesOf inOrder freeOf liveOf holesOf zombiesOf pagesOf rootsOf
 ceilings-read p e =
     let a = both (leb (p .pages .count) 256) _ e in

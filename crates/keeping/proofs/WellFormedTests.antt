@@ -85,12 +85,12 @@ whole-of p n e =
 of-whole : (p n : ℕ) → Whole p n → whole p n ≡ true
 of-whole p n w = and-true (not (eqb n 0)) (eqb (n % p) 0) (of-positive n (w .positive)) (eq-eqb (n % p) 0 (w .aligned))
 
-wholeSpan-of : (p : ℕ) (h : Range) → (whole p (h .from) && whole p (h .size)) ≡ true → WholeSpan p h
+pub wholeSpan-of : (p : ℕ) (h : Range) → (whole p (h .from) && whole p (h .size)) ≡ true → WholeSpan p h
 wholeSpan-of p h e =
     let q = both (whole p (h .from)) (whole p (h .size)) e in
     record { start = whole-of p (h .from) (q .0); size = whole-of p (h .size) (q .1) }
 
-of-wholeSpan : (p : ℕ) (h : Range) → WholeSpan p h → (whole p (h .from) && whole p (h .size)) ≡ true
+pub of-wholeSpan : (p : ℕ) (h : Range) → WholeSpan p h → (whole p (h .from) && whole p (h .size)) ≡ true
 of-wholeSpan p h w = and-true (whole p (h .from)) (whole p (h .size)) (of-whole p (h .from) (w .start)) (of-whole p (h .size) (w .size))
 
 apart-of : (va : ℕ) (a b : Address) → apart va (a .0) (b .0) ≡ true → Parted (λ a. a .0) (λ a. va) a b
@@ -108,7 +108,7 @@ of-apart va a b r =
 parted-of : (h k : Range) → eqb (common h k) 0 ≡ true → Parted (λ h. h .from) (λ h. h .size) h k
 parted-of h k e = omega (arith, eqb-true (common h k) 0 e)
 
-of-parted : (h k : Range) → Parted (λ h. h .from) (λ h. h .size) h k → eqb (common h k) 0 ≡ true
+pub of-parted : (h k : Range) → Parted (λ h. h .from) (λ h. h .size) h k → eqb (common h k) 0 ≡ true
 of-parted h k r = eq-eqb (common h k) 0 (omega arith)
 
 loose-of : (h k : Range) → (not (eqb (upto h) (k .from)) && not (eqb (upto k) (h .from))) ≡ true → Loose h k
@@ -116,7 +116,7 @@ loose-of h k e =
     let q = both (not (eqb (upto h) (k .from))) (not (eqb (upto k) (h .from))) e in
     (differ-of (upto h) (k .from) (q .0), differ-of (upto k) (h .from) (q .1))
 
-of-loose : (h k : Range) → Loose h k → (not (eqb (upto h) (k .from)) && not (eqb (upto k) (h .from))) ≡ true
+pub of-loose : (h k : Range) → Loose h k → (not (eqb (upto h) (k .from)) && not (eqb (upto k) (h .from))) ≡ true
 of-loose h k r =
     and-true (not (eqb (upto h) (k .from))) (not (eqb (upto k) (h .from))) (of-differ (upto h) (k .from) (r .0)) (of-differ (upto k) (h .from) (r .1))
 

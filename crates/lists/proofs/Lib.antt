@@ -18,3 +18,5 @@ pub mod Keys
 pub mod Compact
 pub mod Scans
 pub mod Sorting
+pub mod Copies
+pub mod Merges

@@ -1,0 +1,65 @@
+-- The tests that the code makes of ranges in ascending address, one pass each, and what an array of ranges holds.
+use mathlib.Core.Bool.{Bool, true, _&&_, not}
+use mathlib.Core.List.{List, [], _∷_, map}
+use Prim.Native.Nat.{ℕ, _-_, _^_}
+use lib.Dec.{ltb, leb, eqb}
+use lib.ListN.{take}
+use Rattle.lists.specs.Tests.{every, pairwise, distinct}
+use Rattle.lists.specs.Order.{Ascends}
+use Rattle.lists.specs.Walks.{sum}
+use Rattle.words.specs.declared.Address.{Address}
+use Rattle.tables.specs.Values.{Tables}
+use Rattle.tables.specs.TakeRange.{apart}
+use Rattle.tables.specs.declared.FreeRegion.{FreeRegion}
+use Rattle.tables.specs.declared.Zombie.{Zombie}
+use Rattle.tables.specs.declared.Page.{Page}
+use Rattle.tables.specs.WellFormed.{range, upto, common, whole}
+use Rattle.tables.specs.WellFormed as wellFormed
+use Rattle.forms.specs.declared.Range.{Range}
+use Rattle.forms.specs.declared.Ranges.{Ranges}
+
+abbrev pub rangeOf : Range → wellFormed.Range
+rangeOf h = range (h .from) (h .size)
+
+unfoldable pub rangesOf : Ranges → List wellFormed.Range
+rangesOf t = map rangeOf (take (t .count) (t .cells))
+
+-- aligned, nonzero
+abbrev pub isAligned : ℕ → wellFormed.Range → Bool
+isAligned page h = whole page (h .from) && whole page (h .size)
+
+-- each starts at or after the end of the one before, the first at or after `b`, and ends at or below 2^63
+abbrev pub spaced : ℕ → List wellFormed.Range → Bool
+spaced b [] = true
+spaced b (h ∷ l) = leb b (h .from) && (leb (upto h) (2 ^ 63) && spaced (upto h) l)
+
+-- how many addresses of a range are in the roots
+abbrev pub bytesInside : ℕ → List Address → wellFormed.Range → ℕ
+bytesInside va roots h = sum (λ a. common h (range (a .0) va)) roots
+
+-- all its addresses are in the roots
+abbrev pub isInside : ℕ → List Address → wellFormed.Range → Bool
+isInside va roots h = eqb (bytesInside va roots h) (h .size)
+
+-- none starts where the one before ends, the first not at `b`
+abbrev pub untouched : ℕ → List wellFormed.Range → Bool
+untouched b [] = true
+untouched b (h ∷ l) = not (eqb b (h .from)) && untouched (upto h) l
+
+-- the tests of the roots, of all ranges, of handles and ids
+unfoldable pub rootsPass : ℕ → ℕ → List Address → Bool
+rootsPass page va roots = pairwise (λ a b. apart va (a .0) (b .0)) roots && every (λ a. whole page (a .0) && leb (a .0) (2 ^ 63 - va)) roots
+
+unfoldable pub rangesPass : ℕ → ℕ → List Address → List wellFormed.Range → Bool
+rangesPass page va roots l = every (isAligned page) l && (spaced 0 l && every (isInside va roots) l)
+
+unfoldable pub namesPass : List FreeRegion → List Zombie → List Page → ℕ → Bool
+namesPass free zombies pages counter =
+    distinct (map (λ g. g .handle .0) pages)
+    && (distinct (map (λ f. f .id .0) free) && (every (λ f. ltb (f .id .0) counter) free && every (λ z. ltb (z .id .0) counter) zombies))
+
+-- free, live and holes in ascending address
+pub record InOrder (t : Tables) : Type 0 where
+  pub free : Ascends (λ r. r .start .0) 0 (t .free)
+  pub live : Ascends (λ b. b .start .0) 0 (t .live)
+  pub holes : Ascends (λ h. h .start .0) 0 (t .holes)
