@@ -284,7 +284,7 @@ module _ {lost hand bare : ℕ → ℕ} {t : Tables} (s : Sound lost hand bare t
       (λ p. absurd (omega (arith, s .covered x, cover-past (λ a. a .0) (λ a. t .va) (2 ^ 63) x (t .roots) (all-implies _ _ (λ a w. w .1) (t .roots) (s .roots)) p)))
       (cases-lt x (2 ^ 63))
 
-  sound-range : (a n : ℕ) → 0 < n → ((x : ℕ) → within a n x ≤ hand x) → a + n ≤ 2 ^ 63
+  pub sound-range : (a n : ℕ) → 0 < n → ((x : ℕ) → within a n x ≤ hand x) → a + n ≤ 2 ^ 63
   sound-range a n h le = omega (arith, sound-below (a + n - 1) (omega (arith, le (a + n - 1), within-in a n (a + n - 1) (omega arith) (omega arith))))
 
   -- What is in hand is in no hole.

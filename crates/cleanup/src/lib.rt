@@ -1,0 +1,102 @@
+// Malloc's first part, cleanup: what each zombie held is unmapped and becomes a hole, once its event is complete.
+ghost use Prim.Native.Nat.{_+_, _*_, _≤_, _<_};
+ghost use lib.ListN.{length};
+ghost use Rattle.cleanup.specs.Cleaning.{Cleanable, Cleans, CleansUp};
+use driving::Asked;
+use driving::Ended;
+use driving::is_complete;
+use driving::try_tell;
+use entries::zombies::swap_out;
+use holes::insert_hole;
+use tables::Holes;
+use tables::Outcome;
+use tables::Zombies;
+use words::Word;
+
+pub struct CleanedUp {
+    pub zombies: Zombies,
+    pub holes: Holes,
+    pub ended: Ended,
+    pub made: usize,
+}
+
+// The zombie at a place is taken out before the unmap: where no answer is left for that, its range is in no table.
+fn clean(
+    zombies: Zombies,
+    holes: Holes,
+    i: usize,
+    answers: &[u64],
+    log: &mut [u64],
+    made: usize,
+) -> CleanedUp
+    requires { ⌜ Cleanable zombies holes × ((i < zombies .count) × (4 * (made + 1) ≤ length (now log))) ⌝ }
+    ensures { λ r. ⌜ Cleans i (now (answers .entry)) zombies holes made (now (log .entry)) r (now (log .exit)) ⌝ }
+{
+    let z = zombies.cells[i];
+    let left = swap_out(zombies, i);
+    let ended = try_tell(answers, log, made, Word::Unmap, z.start.0, z.size);
+    let n = made + 1;
+    let Ended::On = ended else {
+        return CleanedUp {
+            zombies: left,
+            holes,
+            ended,
+            made: n,
+        };
+    };
+    let returned = insert_hole(holes, z.start, z.size);
+    CleanedUp {
+        zombies: left,
+        holes: returned,
+        ended: Ended::On,
+        made: n,
+    }
+}
+
+// Cleanup: walk zombies from place 0. A zombie that is cleaned leaves another in its place, which is asked next.
+pub fn cleanup(
+    zombies: Zombies,
+    holes: Holes,
+    answers: &[u64],
+    log: &mut [u64],
+    made: usize,
+) -> CleanedUp
+    requires { ⌜ Cleanable zombies holes × (4 * (made + 2 * zombies .count) ≤ length (now log)) ⌝ }
+    ensures { λ r. ⌜ CleansUp (now (answers .entry)) zombies holes made (now (log .entry)) r (now (log .exit)) ⌝ }
+{
+    let mut zs = zombies;
+    let mut hs = holes;
+    let mut n = made;
+    let mut i = 0;
+    while i < zs.count {
+        let z = zs.cells[i];
+        let asked = is_complete(answers, log, n, z.id);
+        n += 1;
+        let Asked::Complete(complete) = asked else {
+            return CleanedUp {
+                zombies: zs,
+                holes: hs,
+                ended: Ended::Ends(Outcome::AnswersRanOut),
+                made: n,
+            };
+        };
+        if complete {
+            let cleaned = clean(zs, hs, i, answers, log, n);
+            let ended = cleaned.ended;
+            let Ended::On = ended else {
+                return cleaned;
+            };
+            zs = cleaned.zombies;
+            hs = cleaned.holes;
+            n = cleaned.made;
+        } else {
+            i += 1;
+        }
+    }
+    CleanedUp {
+        zombies: zs,
+        holes: hs,
+        ended: Ended::On,
+        made: n,
+    }
+}
