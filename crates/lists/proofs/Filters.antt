@@ -1,6 +1,7 @@
--- What a filter keeps of a list: what passed the test, the order, and with those that did not pass the length. Assumes nothing.
-use mathlib.Core.Path.{_≡_, refl}
-use mathlib.Core.Bool.{Bool, true, false, cond, not}
+-- What a filter keeps of a list: what passed the test, the order, and with those that did not pass the length; and two filters, one after the other.
+-- Assumes nothing.
+use mathlib.Core.Path.{_≡_, refl, ap}
+use mathlib.Core.Bool.{Bool, true, false, cond, not, _&&_}
 use mathlib.Core.List.{List, [], _∷_}
 use Prim.Native.Nat.{ℕ, _+_}
 use native.Mathlib.Omega.{arith}
@@ -31,3 +32,29 @@ rises-filter key p b (x ∷ l) r = go (p x) (rises-filter key p (key x) l (r .1)
     go : (t : Bool) → Rises key (key x) (filter p l) → Rises key b (cond t (x ∷ filter p l) (filter p l))
     go true h = (r .0, h)
     go false h = rises-below key b (key x) (filter p l) (omega (arith, r .0)) h
+
+module _ {ℓ} {A : Type ℓ} where
+  -- those that pass one test and then another
+  pub filter-both : (p q : A → Bool) (l : List A) → filter q (filter p l) ≡ filter (λ x. p x && q x) l
+  filter-both p q [] = refl
+  filter-both p q (x ∷ l) = go (p x) (filter-both p q l)
+    where
+      go : (b : Bool) → filter q (filter p l) ≡ filter (λ x. p x && q x) l →
+          filter q (cond b (x ∷ filter p l) (filter p l)) ≡ cond (b && q x) (x ∷ filter (λ x. p x && q x) l) (filter (λ x. p x && q x) l)
+      go true e = ap (λ m. cond (q x) (x ∷ m) m) e
+      go false e = e
+
+  pub filter-commute : (p q : A → Bool) (l : List A) → filter q (filter p l) ≡ filter p (filter q l)
+  filter-commute p q [] = refl
+  filter-commute p q (x ∷ l) = go (p x) (q x) refl refl (filter-commute p q l)
+    where
+      go : (a b : Bool) → p x ≡ a → q x ≡ b → filter q (filter p l) ≡ filter p (filter q l) →
+          filter q (cond a (x ∷ filter p l) (filter p l)) ≡ filter p (cond b (x ∷ filter q l) (filter q l))
+      go true true e f h = rw (e, f) (ap (λ m. x ∷ m) h)
+      go true false e f h = rw f h
+      go false true e f h = rw e h
+      go false false e f h = h
+
+  pub filter-all : (l : List A) → filter (λ x. true) l ≡ l
+  filter-all [] = refl
+  filter-all (x ∷ l) = ap (λ m. x ∷ m) (filter-all l)

@@ -92,6 +92,12 @@ module _ {A : Type 0} (key : A → ℕ) where
             (λ h. rw (le-ltb (key x) (b .least) h, le-leb (key y) (key x) (omega (arith, k refl))))
             (cases-lt (key x) (b .least))
 
+    -- The least of the best so far and of what is left stays the same where an element is looked at.
+    pub better-turn : (i : ℕ) (b : Best) (m : List A) → Marks z l i b →
+        lesser (found z l b) (least key (getD l i z ∷ m)) ≡ lesser (found z l (better i (key (getD l i z)) b)) (least key m)
+    better-turn i b m k =
+        sym (lesser-assoc (found z l b) (some (getD l i z)) (least key m)) ∙ ap (λ o. lesser o (least key m)) (sym (found-better i b k))
+
     -- the best `e` is the lesser of the best `b` and the least of `m`
     abbrev Ends : Best → List A → Best → Type 0
     Ends b m e = (found z l e ≡ lesser (found z l b) (least key m)) × Marks z l (length l) e
@@ -115,9 +121,8 @@ module _ {A : Type 0} (key : A → ℕ) where
             Ends b (cond t (x ∷ filter p m) (filter p m)) (scan key p (i + 1) (cond t (better i (key x) b) b) m)
         go false (here, (rest, low)) f = f b rest (omega arith) (marks-on i b k)
         go true (here, (rest, low)) f =
-            let o = least key (filter p m) in
             let r = f (better i (key x) b) rest (omega arith) (rw here at (marks-better i b k)) in
-            (r .0 ∙ ap (λ q. lesser q o) (rw here at (found-better i b k)) ∙ lesser-assoc (found z l b) (some x) o, r .1)
+            (r .0 ∙ sym (rw here at (better-turn i b (filter p m) k)), r .1)
 
   -- What a scan finds is the least of those that pass, and it is at one of the list's places.
   pub scan-least : (p : A → Bool) (z : A) (l : List A) → found z l (scan key p 0 nothing l) ≡ least key (filter p l)

@@ -16,7 +16,7 @@ pub mod Found
 pub mod Pushed
 pub mod Keys
 pub mod Compact
-pub mod Scans
-pub mod Sorting
+pub mod Front
+pub mod Lowest
 pub mod Copies
 pub mod Merges

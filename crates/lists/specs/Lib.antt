@@ -5,5 +5,4 @@ pub mod Walks
 pub mod Cells
 pub mod Scan
 pub mod InOrder
-pub mod Scans
-pub mod Sorting
+pub mod Front

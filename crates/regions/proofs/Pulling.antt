@@ -9,15 +9,15 @@ use borrow.Author.Tests.{ne-eqb, not-true}
 use lib.Dec.{eqb}
 use Rattle.lists.specs.Tests.{All, Member, filter}
 use Rattle.lists.specs.Order.{sorted, Rises, least}
-use Rattle.lists.specs.Scans.{front, orElse}
+use Rattle.lists.specs.Front.{front, orElse}
+use Rattle.lists.specs.Scan.{better}
 use Rattle.lists.proofs.Members.{member-least, member-filter, all-members}
-use Rattle.lists.proofs.Filters.{rises-filter}
+use Rattle.lists.proofs.Filters.{rises-filter, filter-both, filter-commute, filter-all}
 use Rattle.lists.proofs.Keys.{rises-same}
-use Rattle.lists.proofs.Scans.{filter-both, filter-commute, filter-all, front-append, front-sorted, sorted-least}
+use Rattle.lists.proofs.Front.{front-append, front-sorted, sorted-least}
 use Rattle.tables.specs.InsertFree.{from, withoutFree}
 use Rattle.tables.specs.Pull.{ownOf, othersOf, pullOrder}
 use Rattle.tables.specs.declared.FreeRegion.{FreeRegion}
-use Rattle.regions.specs.Choosing.{betterOf}
 use Rattle.regions.specs.Pulling.{nextToPull, besides, isMade, olderOf}
 use Rattle.regions.specs.declared.Made.{Made}
 use Rattle.regions.specs.declared.Made.the-variants.{Region, Nothing}
@@ -68,24 +68,24 @@ next-found m s l a b e f = rw (e, f) (sym (next-besides m s l))
 
 -- a turn of the scan, for each of the two
 module _ (m : Made) (s i : ℕ) (o : Oldest) (q : FreeRegion) where
-  pub older-own : olderOf m s i o q .own ≡ cond (own m s q) (betterOf i (age q) (o .own)) (o .own)
+  pub older-own : olderOf m s i o q .own ≡ cond (own m s q) (better i (age q) (o .own)) (o .own)
   unfolding olderOf
   older-own = go (isMade m q) (eqb (q .stream) s)
     where
       go : (a b : Bool) →
-          cond a o (cond b (record { own = betterOf i (age q) (o .own); other = o .other }) (record { own = o .own; other = betterOf i (age q) (o .other) })) .own ≡
-          cond (not a && b) (betterOf i (age q) (o .own)) (o .own)
+          cond a o (cond b (record { own = better i (age q) (o .own); other = o .other }) (record { own = o .own; other = better i (age q) (o .other) })) .own ≡
+          cond (not a && b) (better i (age q) (o .own)) (o .own)
       go true b = refl
       go false true = refl
       go false false = refl
 
-  pub older-other : olderOf m s i o q .other ≡ cond (other m s q) (betterOf i (age q) (o .other)) (o .other)
+  pub older-other : olderOf m s i o q .other ≡ cond (other m s q) (better i (age q) (o .other)) (o .other)
   unfolding olderOf
   older-other = go (isMade m q) (eqb (q .stream) s)
     where
       go : (a b : Bool) →
-          cond a o (cond b (record { own = betterOf i (age q) (o .own); other = o .other }) (record { own = o .own; other = betterOf i (age q) (o .other) })) .other ≡
-          cond (not a && not b) (betterOf i (age q) (o .other)) (o .other)
+          cond a o (cond b (record { own = better i (age q) (o .own); other = o .other }) (record { own = o .own; other = better i (age q) (o .other) })) .other ≡
+          cond (not a && not b) (better i (age q) (o .other)) (o .other)
       go true b = refl
       go false true = refl
       go false false = refl

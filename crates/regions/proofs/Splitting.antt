@@ -9,7 +9,7 @@ use lib.ListN.{length, getD, set, drop}
 use Rattle.lists.specs.Tests.{filter}
 use Rattle.lists.proofs.Cells.{turn, ends}
 use Rattle.lists.proofs.Walks.{sum-filter}
-use Rattle.lists.proofs.Scans.{foldr-min}
+use Rattle.lists.proofs.Lowest.{foldr-min}
 use Rattle.lists.proofs.Compact.{Compact, compact-starts, compact-passes, compact-skips, compact-ends}
 use Rattle.tables.specs.Values.{region, freeOf, packFree}
 use Rattle.tables.specs.InsertFree.{from, bytes, merges, merged}

@@ -4,11 +4,11 @@ use mathlib.Core.List.{List}
 use mathlib.Core.Option.{Option}
 use Prim.Native.Nat.{ℕ}
 use lib.Dec.{eqb}
-use Rattle.lists.specs.Scans.{front}
+use Rattle.lists.specs.Front.{front}
+use Rattle.lists.specs.Scan.{better}
 use Rattle.tables.specs.InsertFree.{from, withoutFree}
 use Rattle.tables.specs.Pull.{pullOrder}
 use Rattle.tables.specs.declared.FreeRegion.{FreeRegion}
-use Rattle.regions.specs.Choosing.{betterOf}
 use Rattle.regions.specs.declared.Made.{Made}
 use Rattle.regions.specs.declared.Made.the-variants.{Region, Nothing}
 use Rattle.regions.specs.declared.Oldest.{Oldest}
@@ -31,5 +31,5 @@ unfoldable pub olderOf : Made → ℕ → ℕ → Oldest → FreeRegion → Olde
 olderOf m s i o q =
     cond (isMade m q) o (
     cond (eqb (q .stream) s)
-    (record { own = betterOf i (q .id .0) (o .own); other = o .other })
-    (record { own = o .own; other = betterOf i (q .id .0) (o .other) }))
+    (record { own = better i (q .id .0) (o .own); other = o .other })
+    (record { own = o .own; other = better i (q .id .0) (o .other) }))
