@@ -52,7 +52,7 @@ module _ (lost hand before : ℕ → ℕ) (b : ℕ) (t : Tables) (w : Sound lost
   without-page : (f : Page → ℕ) → f g + sum f (without at b (t .pages)) ≡ sum f (t .pages)
   without-page f = rw (← e) (sum-without at f 0 g (t .pages) (w .pagesRise) m)
 
-  length-unpaged : suc (length (without at b (t .pages))) ≡ length (t .pages)
+  pub length-unpaged : suc (length (without at b (t .pages))) ≡ length (t .pages)
   length-unpaged = rw (← e) (length-without at 0 g (t .pages) (w .pagesRise) m)
 
   length-moved : (a : ℕ) → length (moved b a t .pages) ≡ length (t .pages)
@@ -86,20 +86,20 @@ module _ (lost hand before : ℕ → ℕ) (b : ℕ) (t : Tables) (w : Sound lost
       same = rw (← e) (handleAt-is 0 g (t .pages) (w .pagesRise) m)
 
 -- While the pages at `bs` are still to be moved to `a` and on, and those before them fill the range from `base` up to `a`.
-record Moving (lost hand : ℕ → ℕ) (p base a c : ℕ) (f : List FreeRegion) (bs : List ℕ) (t : Tables) : Type 0 where
-  sound : Sound lost hand (λ x. keysAt (λ b. b) bs x + within base (a - base) x) t
-  starts : All (Whole p) bs
-  apart : (x : ℕ) → x % p ≡ 0 → keysAt (λ b. b) bs x + hand x ≤ 1
-  whole : Whole p a
-  past : base ≤ a
-  room : (x : ℕ) → a ≤ x → x < a + length bs * p → hand x ≡ 1
-  few : Few 0 c t
-  page : t .page ≡ p
-  free : t .free ≡ f
+pub record Moving (lost hand : ℕ → ℕ) (p base a c : ℕ) (f : List FreeRegion) (bs : List ℕ) (t : Tables) : Type 0 where
+  pub sound : Sound lost hand (λ x. keysAt (λ b. b) bs x + within base (a - base) x) t
+  pub starts : All (Whole p) bs
+  pub apart : (x : ℕ) → x % p ≡ 0 → keysAt (λ b. b) bs x + hand x ≤ 1
+  pub whole : Whole p a
+  pub past : base ≤ a
+  pub room : (x : ℕ) → a ≤ x → x < a + length bs * p → hand x ≡ 1
+  pub few : Few 0 c t
+  pub page : t .page ≡ p
+  pub free : t .free ≡ f
 
 module _ (lost hand : ℕ → ℕ) (p base a c : ℕ) (f : List FreeRegion) (b : ℕ) (bs : List ℕ) (t : Tables) (w : Moving lost hand p base a c f (b ∷ bs) t) where
   -- the page at `b`
-  page-there : (g : Page) × (Member g (t .pages) × (at g ≡ b))
+  pub page-there : (g : Page) × (Member g (t .pages) × (at g ≡ b))
   page-there =
       let some : 0 < pagesAt (t .pages) b = omega (arith, w .sound .pagesMatch b (rw (w .page) (w .starts .0 .aligned)), equal-same b) in
       let r = member-sum (λ g. equal (at g) b) (t .pages) some in
@@ -118,7 +118,7 @@ module _ (lost hand : ℕ → ℕ) (p base a c : ℕ) (f : List FreeRegion) (b :
         within-out base (a - base) a (inr (omega (arith, w .past))),
       )
 
-  moving-next : Moving lost hand p base (a + p) c f bs (moved b a t)
+  pub moving-next : Moving lost hand p base (a + p) c f bs (moved b a t)
   moving-next =
       record {
         sound = sound-moved lost hand _ b t (w .sound) g m e _ a (rw (w .page) (w .whole)) none-there bare;
@@ -206,7 +206,7 @@ pub record Moved (lost hand : ℕ → ℕ) (p a n c : ℕ) (f : List FreeRegion)
   pub free : t .free ≡ f
 
 module _ (lost hand : ℕ → ℕ) (p a c : ℕ) (f : List FreeRegion) (zs : List Zombie) where
-  moving-first : (t : Tables) → Movable lost hand p a c f zs t → Moving lost hand p a a c f (pagesIn p zs) t
+  pub moving-first : (t : Tables) → Movable lost hand p a c f zs t → Moving lost hand p a a c f (pagesIn p zs) t
   moving-first t w =
       record {
         sound = sound-bare (w .sound) bare;

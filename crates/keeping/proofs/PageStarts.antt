@@ -50,7 +50,7 @@ rise-starts p h (suc k) a = (
   rise-starts p h k (a + p),
 )
 
-length-starts : (k a p : ℕ) → length (starts k a p) ≡ k
+pub length-starts : (k a p : ℕ) → length (starts k a p) ≡ k
 length-starts zero a p = refl
 length-starts (suc k) a p = ap suc (length-starts k (a + p) p)
 
