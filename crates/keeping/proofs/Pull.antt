@@ -135,7 +135,7 @@ spansAfter c lacks r = c - (1 - (r .size - lacks))
 
 module _ (lost hand bare : ℕ → ℕ) (p lacks c : ℕ) (keep : List FreeRegion) (r : FreeRegion) (l : List FreeRegion) (pos : 0 < lacks) where
   -- after one pull the others are still to be pulled
-  pulling-next : (t : Tables) → Pulling lost hand bare p lacks c keep (r ∷ l) t →
+  pub pulling-next : (t : Tables) → Pulling lost hand bare p lacks c keep (r ∷ l) t →
       Pulling lost hand (λ x. bare x + within (from r) (takenOf lacks r) x) p (lacks - takenOf lacks r) (spansAfter c lacks r) keep l (pulled (takenOf lacks r) r t)
   pulling-next t w =
       record {
