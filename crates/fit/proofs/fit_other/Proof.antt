@@ -1,0 +1,133 @@
+-- `fit::fit_other` meets its contract: each way out of it is a way of the rule, after the search of the candidates. Assumes nothing.
+use mathlib.Core.Path.{ap, _∙_}
+use mathlib.Core.List.{map}
+use Prim.Native.Nat.{_<_}
+use native.Mathlib.Omega.{arith}
+use borrow.Author.Needs.{needs}
+use lib.ListN.{getD, length-map}
+use Rattle.tables.specs.Values.{region, freeOf, packFree}
+use Rattle.tables.specs.Kept.{KeptFree}
+use Rattle.tables.specs.declared.FreeRegion.{FreeRegion}
+use Rattle.tables.specs.declared.FreeRegions.{FreeRegions}
+use Rattle.tables.proofs.Packs.{free-pack, free-count, free-kept}
+use Rattle.fit.proofs.Turns.{cell-is}
+use Rattle.fit.proofs.Ways.{chosen-at, chosen-none, placed-at, other-stop, other-none, other-some}
+use Rattle.fit.proofs.fit_other.Statement.{statement}
+use Rattle.fit.proofs.fit_other.Tie as tie
+
+abbrev at-entry : tie.After-smallest-complete → tie.Start
+at-entry c = c .before .before .before .before
+
+abbrev searching : tie.After-known-told → tie.After-smallest-complete
+searching c = c .before .before .before .before .before .before .before
+
+-- the place found is one of the table's
+placed : (c : tie.After-known-told) → c .before .choice .given .0 .0 < at-entry (searching c) .args .t1 .count
+placed c =
+    let q = searching c in
+    let s = at-entry q in
+    omega (
+      arith,
+      placed-at (freeOf (s .args .t1)) (q .smallest-complete .result .choice) _ (q .smallest-complete .ensures .placed) (c .before .choice .given .1),
+      free-count (s .args .t1) (s .pre .0 .free),
+    )
+
+smallest-complete-requires : tie.Need-smallest-complete-requires
+smallest-complete-requires c κs = search needs
+
+enum-told : tie.Need-enum-told
+enum-told c = search needs
+
+enum-told-2 : tie.Need-enum-told-2
+enum-told-2 c = search needs
+
+same-length : tie.Need-same-length
+same-length c = search needs
+
+returns : tie.Need-returns
+returns c =
+    let q = c .before .before .before .before in
+    let s = at-entry q in
+    let m = q .smallest-complete .ensures in
+    record {
+      ran = λ t. other-stop (s .args .stream) _ _ (q .smallest-complete .result .ended) (m .ran t) (c .enum-told2 .given .1);
+      free = s .pre .0 .free;
+      most = m .most;
+    }
+
+enum-known-choice : tie.Need-enum-known-choice
+enum-known-choice c = search needs
+
+enum-told-3 : tie.Need-enum-told-3
+enum-told-3 c = search needs
+
+same-length-2 : tie.Need-same-length-2
+same-length-2 c = search needs
+
+returns-2 : tie.Need-returns-2
+returns-2 c =
+    let w = c .before .before in
+    let q = w .before .before .before .before in
+    let s = at-entry q in
+    let m = q .smallest-complete .ensures in
+    record {
+      ran = λ t. other-none (s .args .stream) _ _ (q .smallest-complete .result .ended) (m .ran t) (w .enum-told .given .1)
+          (chosen-none (freeOf (s .args .t1)) (q .smallest-complete .result .choice) (c .enum-told3 .given .1));
+      free = s .pre .0 .free;
+      most = m .most;
+    }
+
+mul-q : tie.Need-mul-q
+mul-q c = omega (arith, placed c, at-entry (searching c) .pre .0 .free .most)
+
+element-copy-out-q : tie.Need-element-copy-out-q
+element-copy-out-q c = omega (arith, placed c, at-entry (searching c) .pre .0 .free .most)
+
+take-over-requires : tie.Need-take-over-requires
+take-over-requires c κs =
+    let d = c .before .before .before in
+    let k = at-entry (searching d) .pre .0 in
+    ((k .free, placed d), k .rises)
+
+same-length-3 : tie.Need-same-length-3
+same-length-3 c = search needs
+
+returns-3 : tie.Need-returns-3
+returns-3 c =
+    let d = c .before .before .before .before in
+    let w = d .before .before .before in
+    let q = searching d in
+    let s = at-entry q in
+    let m = q .smallest-complete .ensures in
+    let l = freeOf (s .args .t1) in
+    let i = d .before .choice .given .0 .0 in
+    let over = c .take-over .ensures in
+    record {
+      ran = λ t. rw (ap freeOf over ∙ free-pack _, cell-is (s .args .t1) (placed d))
+          (other-some (s .args .stream) _ _ (q .smallest-complete .result .ended) (m .ran t) (w .enum-told .given .1) (getD l i (region 0 0 0 0))
+          (chosen-at l (q .smallest-complete .result .choice) i (d .before .choice .given .1)));
+      free = rw over (kept-map (s .args .t1) (s .pre .0 .free) _);
+      most = m .most;
+    }
+  where
+    kept-map : (f : FreeRegions) → KeptFree f → (g : FreeRegion → FreeRegion) → KeptFree (packFree (map g (freeOf f)))
+    kept-map f k g = free-kept (map g (freeOf f)) (omega (arith, length-map (freeOf f) g, free-count f k, k .most))
+
+pub fit-other-spec : {M : Type 1} → statement M
+fit-other-spec =
+    tie.close
+    (tie.spec
+    smallest-complete-requires
+    enum-told
+    enum-told-2
+    same-length
+    returns
+    enum-known-choice
+    enum-told-3
+    same-length-2
+    returns-2
+    mul-q
+    element-copy-out-q
+    take-over-requires
+    same-length-3
+    returns-3)
