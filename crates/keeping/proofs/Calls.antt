@@ -1,4 +1,4 @@
--- Well formed is kept by every call, whatever it is handed and whatever the driver answers. A refusal and 17 leave the pool as it came; else the
+-- Well formed is kept by malloc and free, whatever they are handed and whatever the driver answers. A refusal and 17 leave the pool as it came; else the
 -- tables at entry are kept, and so is what the steps leave of them. Assumes nothing.
 use mathlib.Core.Path.{_≡_, refl}
 use mathlib.Core.Logic.{_⊎_, inl, inr}
