@@ -1,1 +1,3 @@
 pub mod Ran
+pub mod Holds
+pub mod Pools

@@ -7,6 +7,11 @@ use Rattle.driving.specs.declared.Ended.the-variants.{On, Ends}
 use Rattle.driving.specs.declared.Asked.{Asked}
 use Rattle.driving.specs.declared.Asked.the-variants.{Complete, Unasked}
 
+-- a step whose value is `a` where it goes on
+abbrev pub endingWith : {A : Type 0} → A → Ended → Ending A
+endingWith a On = on a
+endingWith a (Ends o) = ends o
+
 -- a step with no value
 abbrev pub ending : Ended → Ending (Unit {0})
 ending On = on tt

@@ -9,6 +9,7 @@ ghost use Rattle.tables.specs.Driver.{heard, driver, must, try, isComplete, res
 ghost use Rattle.driving.specs.Ran.{Drove};
 ghost use Rattle.driving.specs.Endings.{ending, askedEnding};
 use tables::Outcome;
+use tables::Pool;
 use words::Answer;
 use words::EventId;
 use words::Record;
@@ -18,6 +19,13 @@ use words::Word;
 pub enum Ended {
     On,
     Ends(Outcome),
+}
+
+// What the steps of a call leave.
+pub struct Stepped {
+    pub pool: Pool,
+    pub outcome: Outcome,
+    pub made: usize,
 }
 
 pub enum Asked {

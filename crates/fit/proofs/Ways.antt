@@ -20,7 +20,8 @@ use Rattle.driving.specs.Ran.{Ran, Point, point}
 use Rattle.driving.specs.declared.Ended.{Ended}
 use Rattle.driving.specs.declared.Ended.the-variants.{On, Ends}
 use Rattle.driving.proofs.Ran.{next, gave, looked, changed}
-use Rattle.fit.specs.Fitting.{optionEnding, smallestComplete}
+use Rattle.driving.specs.Endings.{endingWith}
+use Rattle.fit.specs.Fitting.{smallestComplete}
 use Rattle.fit.proofs.Runs.{map-next, map-stop}
 
 -- what a choice by place chose
@@ -39,8 +40,8 @@ module _ (l : List FreeRegion) (c : Choice) where
 
 -- every candidate was asked, which ended as `d` and found `o`
 module _ {xs : List ℕ} {s v : Point} (st : ℕ) (l : List FreeRegion) (o : Option FreeRegion) (d : Ended)
-    (searched : Ran (smallestComplete l) xs s (optionEnding o d) v) where
-  pub other-stop : {p : Outcome} → d ≡ Ends p → Ran (orOther st l none) xs s (optionEnding none d) v
+    (searched : Ran (smallestComplete l) xs s (endingWith o d) v) where
+  pub other-stop : {p : Outcome} → d ≡ Ends p → Ran (orOther st l none) xs s (endingWith none d) v
   unfolding orOther
   other-stop h = rw h (map-stop (askAll l) smallest (takeOver st) (rw h at searched))
 

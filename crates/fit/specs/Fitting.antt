@@ -6,33 +6,27 @@ use Rattle.lists.specs.Order.{Rises}
 use Rattle.tables.specs.Values.{Tables, region, freeOf, withFree}
 use Rattle.tables.specs.Kept.{KeptFree}
 use Rattle.tables.specs.Choices.{chosen, Placed}
-use Rattle.tables.specs.Steps.{Ending, on, ends, Step, _>>=_, give}
+use Rattle.tables.specs.Steps.{Ending, Step, _>>=_, give}
 use Rattle.tables.specs.InsertFree.{from}
 use Rattle.tables.specs.Fit.{candidates, smallest, askAll}
 use Rattle.tables.specs.declared.FreeRegion.{FreeRegion}
 use Rattle.tables.specs.declared.FreeRegions.{FreeRegions}
 use Rattle.driving.specs.Ran.{Ran, point}
-use Rattle.driving.specs.declared.Ended.{Ended}
-use Rattle.driving.specs.declared.Ended.the-variants.{On, Ends}
+use Rattle.driving.specs.Endings.{endingWith}
 use Rattle.fit.specs.declared.Found.{Found}
 use Rattle.fit.specs.declared.Found.the-variants.{Region, Nothing}
 use Rattle.fit.specs.declared.Fitted.{Fitted}
 use Rattle.fit.specs.declared.Searched.{Searched}
-
--- a step whose value is a region or none
-abbrev pub optionEnding : Option FreeRegion → Ended → Ending (Option FreeRegion)
-optionEnding q On = on q
-optionEnding q (Ends o) = ends o
 
 abbrev pub fitOf : Found → Option FreeRegion
 fitOf (Region q) = some q
 fitOf Nothing = none
 
 abbrev pub fitEnding : Fitted → Ending (Option FreeRegion)
-fitEnding r = optionEnding (fitOf (r .fit)) (r .ended)
+fitEnding r = endingWith (fitOf (r .fit)) (r .ended)
 
 abbrev pub searchedEnding : List FreeRegion → Searched → Ending (Option FreeRegion)
-searchedEnding l r = optionEnding (chosen (region 0 0 0 0) l (r .choice)) (r .ended)
+searchedEnding l r = endingWith (chosen (region 0 0 0 0) l (r .choice)) (r .ended)
 
 -- ask every one of a list: the smallest complete one
 abbrev pub smallestComplete : List FreeRegion → Step (Option FreeRegion)

@@ -15,7 +15,7 @@ use Rattle.driving.specs.Endings.{ending}
 use Rattle.driving.specs.declared.Ended.{Ended}
 use Rattle.driving.specs.declared.Ended.the-variants.{On, Ends}
 use Rattle.driving.proofs.Ran.{next, stop, gave, looked, changed}
-use Rattle.insert_free.specs.Inserting.{regionEnding}
+use Rattle.driving.specs.Endings.{endingWith}
 
 -- the record of the event ended as `d`
 module _ {xs : List ℕ} {s v : Point} (a n st : ℕ) (d : Ended)
@@ -27,6 +27,6 @@ module _ {xs : List ℕ} {s v : Point} (a n st : ℕ) (d : Ended)
   unfolding insertFree
   insert-on r q h = rw q (next _ looked (next _ (changed _) (next _ (rw h at told) (next _ (changed _) (next _ (changed _) gave)))))
 
-  pub insert-stop : {o : Outcome} (r : FreeRegion) → d ≡ Ends o → Ran (insertFree a n st) xs s (regionEnding r d) v
+  pub insert-stop : {o : Outcome} (r : FreeRegion) → d ≡ Ends o → Ran (insertFree a n st) xs s (endingWith r d) v
   unfolding insertFree
   insert-stop r h = rw h (next _ looked (next _ (changed _) (stop _ (rw h at told))))

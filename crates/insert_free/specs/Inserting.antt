@@ -4,22 +4,16 @@ use Prim.Native.Nat.{ℕ, _+_, _≤_, _<_, _^_}
 use Rattle.lists.specs.Tests.{All}
 use Rattle.tables.specs.Values.{Tables, freeOf, withFree, withCounter}
 use Rattle.tables.specs.Kept.{KeptFree}
-use Rattle.tables.specs.Steps.{Ending, on, ends}
+use Rattle.tables.specs.Steps.{Ending, on}
 use Rattle.tables.specs.InsertFree.{upto, bytes, insertFree}
 use Rattle.tables.specs.declared.FreeRegion.{FreeRegion}
 use Rattle.tables.specs.declared.FreeRegions.{FreeRegions}
 use Rattle.driving.specs.Ran.{Ran, point}
-use Rattle.driving.specs.declared.Ended.{Ended}
-use Rattle.driving.specs.declared.Ended.the-variants.{On, Ends}
+use Rattle.driving.specs.Endings.{endingWith}
 use Rattle.insert_free.specs.declared.FreeInserted.{FreeInserted}
 
--- a step whose value is a free region
-abbrev pub regionEnding : FreeRegion → Ended → Ending FreeRegion
-regionEnding q On = on q
-regionEnding q (Ends o) = ends o
-
 abbrev pub insertedEnding : FreeInserted → Ending FreeRegion
-insertedEnding r = regionEnding (r .region) (r .ended)
+insertedEnding r = endingWith (r .region) (r .ended)
 
 -- the tables `t`, with these free regions and this counter
 abbrev pub inserting : FreeRegions → ℕ → Tables → Tables

@@ -35,18 +35,18 @@ pub record PulledIn (lost rest : ℕ → ℕ) (p a n s : ℕ) (keep : List FreeR
   pub kept : All (λ q. Member q before) keep
 
 module _ (lost rest : ℕ → ℕ) (p lacks c : ℕ) (keep others : List FreeRegion) (o : Room) where
-  abbrev place : ℕ
+  abbrev pub place : ℕ
   place = o .start + o .missing
 
   -- the range to be filled, and what else is in hand
-  abbrev filling : ℕ → ℕ
+  abbrev pub filling : ℕ → ℕ
   filling x = rest x + within place lacks x
 
-  abbrev order : List FreeRegion
+  abbrev pub order : List FreeRegion
   order = pullOrder (o .stream) others
 
   -- a span to spare: from the first, or since every region of the order is pulled whole
-  abbrev Spare : Type 0
+  abbrev pub Spare : Type 0
   Spare = (c ≤ 127) ⊎ ((lacks ≡ bytes others) × ((0 < length others) × (c ≤ 128)))
 
   spare-most : Spare → c ≤ 128

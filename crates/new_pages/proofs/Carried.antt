@@ -1,24 +1,20 @@
--- What the rules keep, the code keeps: a triple over a step holds of what code that walks it leaves. So the range stays in hand as its pages are made.
+-- As its pages are made the range stays in hand: what the rules keep, the code keeps.
 -- Assumes nothing.
 use mathlib.Core.Path.{_≡_, ap}
 use mathlib.Core.List.{List}
 use Prim.Native.Nat.{ℕ, suc, _+_, _-_, _<_}
 use Rattle.words.specs.declared.Answer.the-variants.{Done}
 use Rattle.lists.specs.Order.{put}
-use Rattle.tables.specs.Values.{Tables, page}
-use Rattle.tables.specs.Steps.{Ending, on, Step}
+use Rattle.tables.specs.Values.{page}
+use Rattle.tables.specs.Steps.{on}
 use Rattle.tables.specs.NewPages.{Room, at, created, mapPage}
 use Rattle.tables.specs.declared.Page.{Page}
-use Rattle.tables.specs.declared.Outcome.{Outcome}
 use Rattle.driving.specs.Ran.{Point, Ran}
-use Rattle.keeping.specs.Holds.{After, Holds}
+use Rattle.driving.proofs.Holds.{holds-ran}
+use Rattle.keeping.specs.Holds.{Holds}
 use Rattle.keeping.proofs.Holds.{holds-then, holds-must, holds-change, drives-map}
 use Rattle.keeping.proofs.NewPages.{PagesTo, checks-created, maps-page}
 use Rattle.new_pages.proofs.Turns.{one-more}
-
-pub holds-ran : {A : Type 0} {P : Tables → Type 0} {m : Step A} {Q : A → Tables → Type 0} {E : Outcome → Tables → Type 0}
-    {xs : List ℕ} {s : Point} {e : Ending A} {u : Point} → Holds P m Q E → Ran m xs s e u → P (s .tables) → After Q E (u .tables) e
-holds-ran {xs = xs} {s = s} w r h = rw (r .goes) at (w .leaves xs (s .made) (s .tables) h)
 
 -- one page fewer to make, where a new handle was mapped
 pub page-made : {xs : List ℕ} {s u : Point} (lost : ℕ → ℕ) (p f n : ℕ) (o : Room) (a g : ℕ) → 0 < n →

@@ -33,7 +33,8 @@ use Rattle.regions.specs.declared.Made.{Made}
 use Rattle.regions.proofs.Pulling.{pull-next, besides-without, rises-besides}
 use Rattle.driving.specs.Ran.{Ran, Point, point}
 use Rattle.driving.specs.declared.Ended.the-variants.{On, Ends}
-use Rattle.pull.specs.Pulls.{endingWith, pulling, partOf, Takeable, PullsOne, Pullable, Pulls}
+use Rattle.driving.specs.Endings.{endingWith}
+use Rattle.pull.specs.Pulls.{pulling, partOf, Takeable, PullsOne, Pullable, Pulls}
 use Rattle.pull.specs.declared.Pulled.{Pulled}
 use Rattle.pull.proofs.Ways.{joinedTo, ends-as, pulls-stop, pulls-on, joined-none, joined-more}
 

@@ -18,7 +18,8 @@ use Rattle.driving.specs.Ran.{Ran, Point, point}
 use Rattle.driving.specs.declared.Ended.{Ended}
 use Rattle.driving.specs.declared.Ended.the-variants.{On, Ends}
 use Rattle.driving.proofs.Ran.{next, stop, gave, changed, taken, passed}
-use Rattle.pull.specs.Pulls.{endingWith, partOf}
+use Rattle.driving.specs.Endings.{endingWith}
+use Rattle.pull.specs.Pulls.{partOf}
 
 -- a step that ended did not go on
 pub not-on : {A : Type 0} {o : Outcome} → Ends o ≡ On → A

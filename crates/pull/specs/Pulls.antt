@@ -6,7 +6,6 @@ use lib.ListN.{length, drop}
 use Rattle.lists.specs.Order.{Rises}
 use Rattle.tables.specs.Values.{Tables, zombie, freeOf, packFree, zombiesOf, packZombies, withFree, withZombies}
 use Rattle.tables.specs.Kept.{KeptFree, KeptZombies}
-use Rattle.tables.specs.Steps.{Ending, on, ends}
 use Rattle.tables.specs.InsertFree.{from, upto, putRest, withoutFree}
 use Rattle.tables.specs.Pull.{pullOrder, settle, pullOne, pull}
 use Rattle.tables.specs.declared.FreeRegion.{FreeRegion}
@@ -17,16 +16,10 @@ use Rattle.keeping.proofs.Pull.{Pulling}
 use Rattle.regions.specs.Pulling.{besides}
 use Rattle.regions.specs.declared.Made.{Made}
 use Rattle.driving.specs.Ran.{Ran, point}
-use Rattle.driving.specs.Endings.{ending}
-use Rattle.driving.specs.declared.Ended.{Ended}
-use Rattle.driving.specs.declared.Ended.the-variants.{On, Ends}
+use Rattle.driving.specs.Endings.{ending, endingWith}
+use Rattle.driving.specs.declared.Ended.the-variants.{On}
 use Rattle.pull.specs.declared.Settled.{Settled}
 use Rattle.pull.specs.declared.Pulled.{Pulled}
-
--- a step whose value is `a` where it goes on
-abbrev pub endingWith : {A : Type 0} → A → Ended → Ending A
-endingWith a On = on a
-endingWith a (Ends o) = ends o
 
 -- Settling changes no table, and makes at most two driver calls.
 pub record Settles (s : ℕ) (r : FreeRegion) (xs : List ℕ) (k : ℕ) (l : List ℕ) (d : Settled) (m : List ℕ) : Type 0 where

@@ -29,7 +29,7 @@ use Rattle.tables.specs.Values.{
   zombie,
   page,
 }
-use Rattle.tables.specs.Kept.{KeptFree, KeptLive, KeptHoles, KeptZombies, KeptPages, KeptRoots}
+use Rattle.tables.specs.Kept.{KeptFree, KeptLive, KeptHoles, KeptZombies, KeptPages, KeptRoots, KeptPool}
 use Rattle.tables.specs.declared.FreeRegion.{FreeRegion}
 use Rattle.tables.specs.declared.FreeRegions.{FreeRegions}
 use Rattle.tables.specs.declared.LiveBuffer.{LiveBuffer}
@@ -41,6 +41,7 @@ use Rattle.tables.specs.declared.Zombies.{Zombies}
 use Rattle.tables.specs.declared.Page.{Page}
 use Rattle.tables.specs.declared.Pages.{Pages}
 use Rattle.tables.specs.declared.Roots.{Roots}
+use Rattle.tables.specs.declared.Pool.{Pool}
 
 pub free-pack : (l : List FreeRegion) → freeOf (packFree l) ≡ l
 unfolding freeOf packFree
@@ -176,6 +177,23 @@ tables-pool state t =
       zombies = zombies-pack (t .zombies) i;
       pages = pages-pack (t .pages) i;
       roots = roots-pack (t .roots) i;
+    }
+
+-- a pool of kept tables is what its tables make
+pub pool-whole : (p : Pool) → KeptPool p → p ≡ poolOf (p .state) (tablesOf p)
+unfolding tablesOf poolOf
+pool-whole p k =
+    λ i. record {
+      state = p .state;
+      page = p .page;
+      va = p .va;
+      counter = p .counter;
+      free = free-whole (p .free) (k .free) i;
+      live = live-whole (p .live) (k .live) i;
+      holes = holes-whole (p .holes) (k .holes) i;
+      zombies = zombies-whole (p .zombies) (k .zombies) i;
+      pages = pages-whole (p .pages) (k .pages) i;
+      roots = roots-whole (p .roots) (k .roots) i;
     }
 
 -- a closed pool is all 0: no cell is in use, and every cell is 0

@@ -7,6 +7,7 @@ use Rattle.tables.specs.declared.Holes.{Holes}
 use Rattle.tables.specs.declared.Zombies.{Zombies}
 use Rattle.tables.specs.declared.Pages.{Pages}
 use Rattle.tables.specs.declared.Roots.{Roots}
+use Rattle.tables.specs.declared.Pool.{Pool}
 
 abbrev pub KeptFree : FreeRegions → Type 0
 KeptFree t = Filled 128 (region 0 0 0 0) (t .cells) (t .count)
@@ -25,3 +26,11 @@ KeptPages t = Filled 256 (page 0 0) (t .cells) (t .count)
 
 abbrev pub KeptRoots : Roots → Type 0
 KeptRoots t = Filled 16 (address 0) (t .cells) (t .count)
+
+pub record KeptPool (p : Pool) : Type 0 where
+  pub free : KeptFree (p .free)
+  pub live : KeptLive (p .live)
+  pub holes : KeptHoles (p .holes)
+  pub zombies : KeptZombies (p .zombies)
+  pub pages : KeptPages (p .pages)
+  pub roots : KeptRoots (p .roots)

@@ -26,7 +26,8 @@ use Rattle.driving.specs.Ran.{Ran, Point, point}
 use Rattle.driving.specs.declared.Ended.{Ended}
 use Rattle.driving.specs.declared.Ended.the-variants.{On, Ends}
 use Rattle.driving.proofs.Ran.{next, stop, gave, ended, looked, changed, taken, passed}
-use Rattle.take_range.specs.Taking.{startEnding, reserveEnded}
+use Rattle.driving.specs.Endings.{endingWith}
+use Rattle.take_range.specs.Taking.{reserveEnded}
 
 -- a step that ended did not go on
 not-on : {A : Type 0} {o : Outcome} → Ends o ≡ On → A
@@ -36,7 +37,7 @@ not-on e = let z : _≡_ {A = ℕ} 0 1 = cc in absurd (omega arith)
 module _ {xs : List ℕ} {k : ℕ} {t : Tables} {l m : List ℕ} (page va n : ℕ) (p : t .page ≡ page) (v : t .va ≡ va) where
   pub root-refused : (x : Answer) → Ran (reserve va) xs (point k t l) (heard x) (point (k + 1) t m) →
       (d : Ended) → d ≡ reserveEnded page va x → {o : Outcome} → d ≡ Ends o → (a : Address) →
-      Ran (reserveRoot n) xs (point k t l) (startEnding a d) (point (k + 1) t m)
+      Ran (reserveRoot n) xs (point k t l) (endingWith (a .0) d) (point (k + 1) t m)
   unfolding reserveRoot
   root-refused (Done b) r d e f a = not-on (sym f ∙ e)
   root-refused (Failed c) r d e f a = rw (e, ← v, ← p) (next _ looked (next _ (rw (← v) at r) (stop _ ended)))

@@ -2,28 +2,23 @@
 use mathlib.Core.Path.{_≡_}
 use mathlib.Core.List.{List}
 use Prim.Native.Nat.{ℕ, _+_, _≤_, _<_}
-use Rattle.words.specs.declared.Address.{Address}
 use Rattle.words.specs.declared.Answer.{Answer}
 use Rattle.words.specs.declared.Answer.the-variants.{Done, Failed, Missing}
 use Rattle.tables.specs.Values.{Tables, holesOf, rootsOf, withHoles, withRoots}
 use Rattle.tables.specs.Kept.{KeptHoles, KeptRoots}
-use Rattle.tables.specs.Steps.{Ending, on, ends, Step}
+use Rattle.tables.specs.Steps.{Ending, on, Step}
 use Rattle.tables.specs.declared.Holes.{Holes}
 use Rattle.tables.specs.declared.Roots.{Roots}
 use Rattle.tables.specs.declared.Outcome.the-variants.{ReserveFailed, AnswersRanOut}
 use Rattle.keeping.specs.Sound.{Kept}
 use Rattle.driving.specs.Ran.{Ran, point}
+use Rattle.driving.specs.Endings.{endingWith}
 use Rattle.driving.specs.declared.Ended.{Ended}
 use Rattle.driving.specs.declared.Ended.the-variants.{On, Ends}
 use Rattle.take_range.specs.declared.Took.{Took}
 
--- a step whose value is an address
-abbrev pub startEnding : Address → Ended → Ending ℕ
-startEnding a On = on (a .0)
-startEnding a (Ends o) = ends o
-
 abbrev pub tookEnding : Took → Ending ℕ
-tookEnding r = startEnding (r .start) (r .ended)
+tookEnding r = endingWith (r .start .0) (r .ended)
 
 -- how a reserve ends: on where it gave a base
 abbrev pub reserveEnded : ℕ → ℕ → Answer → Ended
