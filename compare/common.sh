@@ -46,7 +46,10 @@ same() {
 
 # replays PROGRAM TRACE: the program reads a trace and prints its own, which must be the same.
 replays() {
-    "$1" < "$2" > "$made/replayed" || echo "$1 fails on $2"
+    "$1" < "$2" > "$made/replayed" || {
+        differences=$((differences + 1))
+        echo "$1 fails on $2"
+    }
     same "$1" "$2" "$made/replayed"
 }
 

@@ -39,7 +39,10 @@ pub struct Count {
 
 /// One session's part, added at its end: a session counts once however often a thing occurs in it.
 #[derive(Default)]
-struct Times {
+pub struct Part {
+    calls: u64,
+    lines: u64,
+    most: Most,
     answers: BTreeMap<u64, u64>,
     words: BTreeMap<Word, u64>,
     rules: BTreeMap<Rule, u64>,
@@ -48,20 +51,20 @@ struct Times {
 impl Count {
     /// Replays a session and counts it in, or says where it cannot be followed.
     pub fn add(&mut self, text: &[u8]) -> Result<(), String> {
-        let mut times = Times::default();
-        replay(text, |step| {
-            self.calls += 1;
-            self.lines += 2 + step.outcome.records.len() as u64;
-            times.add(step);
-            if let Some(tables) = &step.after {
-                self.most.add(tables);
-            }
-        })?;
-        self.sessions += 1;
-        tally(&mut self.answers, times.answers);
-        tally(&mut self.words, times.words);
-        tally(&mut self.rules, times.rules);
+        let mut part = Part::default();
+        replay(text, |step| part.add(step))?;
+        self.add_part(part);
         Ok(())
+    }
+
+    pub fn add_part(&mut self, part: Part) {
+        self.sessions += 1;
+        self.calls += part.calls;
+        self.lines += part.lines;
+        self.most.join(&part.most);
+        tally(&mut self.answers, part.answers);
+        tally(&mut self.words, part.words);
+        tally(&mut self.rules, part.rules);
     }
 
     /// Answers met, and every word and rule, met or not.
@@ -92,13 +95,23 @@ impl Count {
 }
 
 impl Most {
-    fn add(&mut self, tables: &Tables) {
+    fn of(tables: &Tables) -> Self {
         let zombies = tables.zombies.len();
-        self.pages = self.pages.max(tables.pages.len());
-        self.spans = self.spans.max(tables.free.len() + tables.live.len());
-        self.zombies = self.zombies.max(zombies);
-        self.holes_and_zombies = self.holes_and_zombies.max(tables.holes.len() + zombies);
-        self.roots = self.roots.max(tables.roots.len());
+        Self {
+            pages: tables.pages.len(),
+            spans: tables.free.len() + tables.live.len(),
+            zombies,
+            holes_and_zombies: tables.holes.len() + zombies,
+            roots: tables.roots.len(),
+        }
+    }
+
+    fn join(&mut self, other: &Self) {
+        self.pages = self.pages.max(other.pages);
+        self.spans = self.spans.max(other.spans);
+        self.zombies = self.zombies.max(other.zombies);
+        self.holes_and_zombies = self.holes_and_zombies.max(other.holes_and_zombies);
+        self.roots = self.roots.max(other.roots);
     }
 
     fn text(&self) -> String {
@@ -109,8 +122,13 @@ impl Most {
     }
 }
 
-impl Times {
-    fn add(&mut self, step: &Step) {
+impl Part {
+    pub fn add(&mut self, step: &Step) {
+        self.calls += 1;
+        self.lines += 2 + step.outcome.records.len() as u64;
+        if let Some(tables) = &step.after {
+            self.most.join(&Most::of(tables));
+        }
         *self.answers.entry(step.outcome.result.answer).or_default() += 1;
         for record in &step.outcome.records {
             *self.words.entry(record.word).or_default() += 1;

@@ -92,7 +92,8 @@ impl Session {
         Ok(Outcome { records, result })
     }
 
-    fn answer(&mut self, call: Call) -> Answered {
+    /// Runs a call with no net for panics: for a benchmark.
+    pub fn answer(&mut self, call: Call) -> Answered {
         match call {
             Call::Open {
                 va_size,

@@ -32,15 +32,20 @@ pub fn word_name(word: Word) -> &'static str {
     DRIVER_WORDS[word as usize].0
 }
 
-/// The line, or what is wrong with it. Fields that document 01 shows as 0 are not looked at.
-pub fn parse_line(line: &[u8]) -> Result<Line, String> {
+/// A line's word, known or not, and its three numbers, or what is wrong with its form.
+pub fn fields(line: &[u8]) -> Result<(&str, [u64; 3]), String> {
     let line = std::str::from_utf8(line).map_err(|_| "not plain text".to_string())?;
     let mut fields = line.split('\t');
     let word = fields.next().unwrap_or_default();
     let numbers: Vec<u64> = fields.map(number).collect::<Result<_, _>>()?;
-    let [first, second, third] = numbers[..] else {
-        return Err("not a word and three numbers parted by tabs".to_string());
-    };
+    let numbers = <[u64; 3]>::try_from(numbers)
+        .map_err(|_| "not a word and three numbers parted by tabs".to_string())?;
+    Ok((word, numbers))
+}
+
+/// The line, or what is wrong with it. Fields that document 01 shows as 0 are not looked at.
+pub fn parse_line(line: &[u8]) -> Result<Line, String> {
+    let (word, [first, second, third]) = fields(line)?;
     Ok(match word {
         "open" => Line::Call(Call::Open {
             page_size: first,
@@ -63,7 +68,7 @@ pub fn parse_line(line: &[u8]) -> Result<Line, String> {
     })
 }
 
-fn driver_word(name: &str) -> Result<Word, String> {
+pub fn driver_word(name: &str) -> Result<Word, String> {
     let known = DRIVER_WORDS.iter().find(|(known, _)| *known == name);
     known
         .map(|(_, word)| *word)
@@ -103,7 +108,7 @@ pub fn trace_of(call: Call, outcome: &Outcome) -> String {
     text + &line("result", result.first, result.second, result.answer)
 }
 
-fn line(word: &str, first: u64, second: u64, third: u64) -> String {
+pub fn line(word: &str, first: u64, second: u64, third: u64) -> String {
     format!("{word}\t{first}\t{second}\t{third}\n")
 }
 

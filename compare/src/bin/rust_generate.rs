@@ -1,14 +1,10 @@
-//! Prints a random session that the Rust pool itself drives: an input that is also its output.
-
-use std::{cell::RefCell, rc::Rc};
+//! Prints a random session that the Rust pool itself drives.
 
 use compare::{
-    card::{Mood, RandomCard},
-    choose::Chooser,
+    generate::generate,
     program::{fail, print, report_panics},
-    session::{Call, Session},
     text::trace_of,
-    words::{Failure, Words, HELP},
+    words::{Words, HELP},
 };
 
 /// Calls after the last asked for in which a failure must come up.
@@ -26,7 +22,14 @@ fn main() {
     let calls = number("CALLS", calls);
     let words = Words::read(words).unwrap_or_else(|message| fail(&message));
     report_panics();
-    generate(seed, calls, words);
+    let generated = generate(seed, calls, PATIENCE, words, |step| {
+        print(&trace_of(step.call, &step.outcome));
+    });
+    match generated {
+        Ok(true) => {}
+        Ok(false) => fail("the call to fail did not come up; try another seed"),
+        Err(message) => fail(&message),
+    }
 }
 
 fn number(name: &str, text: &str) -> u64 {
@@ -34,54 +37,4 @@ fn number(name: &str, text: &str) -> u64 {
         fail(&format!("{name} is not a number: {text}"));
     };
     number
-}
-
-fn generate(seed: u64, calls: u64, words: Words) {
-    let card = Rc::new(RefCell::new(RandomCard::new(seed, words)));
-    let mut session = Session::new(words.config.page_size, Box::new(card.clone()));
-    let mut chooser = Chooser::new(seed, words);
-    run(&mut session, opening(words));
-    card.borrow_mut().mood = Mood::Ordinary;
-    for _ in 0..calls {
-        let call = next(&mut chooser, &session);
-        run(&mut session, call);
-    }
-    if words.fail != Failure::None {
-        card.borrow_mut().mood = Mood::Failing;
-        run_until_failure(&mut session, &mut chooser);
-    }
-    if words.close {
-        card.borrow_mut().mood = Mood::Closing;
-        run(&mut session, Call::Close);
-    }
-}
-
-fn run_until_failure(session: &mut Session, chooser: &mut Chooser) {
-    for _ in 0..PATIENCE {
-        let call = next(chooser, session);
-        if run(session, call) == 14 {
-            return;
-        }
-    }
-    fail("the call to fail did not come up; try another seed");
-}
-
-fn opening(words: Words) -> Call {
-    Call::Open {
-        page_size: words.config.page_size,
-        va_size: words.config.va_size,
-        initial_pages: words.config.initial_pages,
-    }
-}
-
-fn next(chooser: &mut Chooser, session: &Session) -> Call {
-    chooser.next(&session.tables().expect("the pool is open"))
-}
-
-/// Runs and prints a call; gives its answer.
-fn run(session: &mut Session, call: Call) -> u64 {
-    let outcome = (session.run(call))
-        .unwrap_or_else(|panic| fail(&format!("the Rust panics at {call:?}: {panic}")));
-    print(&trace_of(call, &outcome));
-    outcome.result.answer
 }

@@ -11,6 +11,9 @@ use std::{
 pub const REPLAY: &str = env!("CARGO_BIN_EXE_rust_replay");
 pub const GENERATE: &str = env!("CARGO_BIN_EXE_rust_generate");
 pub const COUNT: &str = env!("CARGO_BIN_EXE_rust_count");
+pub const SCALE: &str = env!("CARGO_BIN_EXE_rust_scale");
+pub const JUDGE: &str = env!("CARGO_BIN_EXE_rust_judge");
+pub const DAMAGE: &str = env!("CARGO_BIN_EXE_rust_damage");
 
 pub struct Ran {
     pub good: bool,

@@ -1,3 +1,4 @@
 pub mod Ran
+pub mod Endings
 pub mod Holds
 pub mod Pools

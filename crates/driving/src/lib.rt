@@ -7,9 +7,11 @@ ghost use Rattle.words.specs.Words.{line};
 ghost use Rattle.words.specs.Answers.{codeOf, valueOf, complete};
 ghost use Rattle.tables.specs.Driver.{heard, driver, must, try, isComplete, reserve as reserveStep, create as createStep, ask as askStep};
 ghost use Rattle.driving.specs.Ran.{Drove};
-ghost use Rattle.driving.specs.Endings.{ending, askedEnding};
+ghost use Rattle.driving.specs.Endings.{ending, askedEnding, endedAt, steppedAt};
+use tables::FreeRegion;
 use tables::Outcome;
 use tables::Pool;
+use words::Address;
 use words::Answer;
 use words::EventId;
 use words::Record;
@@ -26,6 +28,49 @@ pub struct Stepped {
     pub pool: Pool,
     pub outcome: Outcome,
     pub made: usize,
+}
+
+// The steps end before their last.
+pub fn stepped_at(pool: Pool, ended: Ended, made: usize) -> Stepped
+    ensures { λ r. ⌜ r ≡ steppedAt pool ended made ⌝ }
+{
+    match ended {
+        Ended::Ends(outcome) => Stepped {
+            pool,
+            outcome,
+            made,
+        },
+        Ended::On => Stepped {
+            pool,
+            outcome: Outcome::AnswersRanOut,
+            made,
+        },
+    }
+}
+
+// `region` is where the buffer comes from, where the call goes on.
+pub struct Roomed {
+    pub pool: Pool,
+    pub region: FreeRegion,
+    pub ended: Ended,
+    pub made: usize,
+}
+
+// The call ends before there is a region.
+pub fn ended_at(pool: Pool, ended: Ended, made: usize) -> Roomed
+    ensures { λ r. ⌜ r ≡ endedAt pool ended made ⌝ }
+{
+    Roomed {
+        pool,
+        region: FreeRegion {
+            start: Address(0),
+            size: 0,
+            stream: 0,
+            id: EventId(0),
+        },
+        ended,
+        made,
+    }
 }
 
 pub enum Asked {

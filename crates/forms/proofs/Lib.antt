@@ -1,6 +1,6 @@
-pub mod Turns
-pub mod Merging
 pub mod PageWalk
+pub mod Walk
+pub mod Four
 pub mod Spacing
 pub mod Passes
 pub mod Ceilings

@@ -3,8 +3,9 @@
 use mathlib.Core.Path.{_≡_, refl}
 use mathlib.Core.Logic.{⊎-elim, inr}
 use mathlib.Core.Bool.{Bool, true, false, _&&_, false≢true}
-use mathlib.Core.List.{List, map, _++_}
+use mathlib.Core.List.{List, [], _∷_, map, _++_}
 use Prim.Native.Nat.{ℕ, _+_, _-_, _≤_, _<_, _^_}
+use lib.Dec.{leb}
 use native.Mathlib.Omega.{arith}
 use native.Mathlib.Nat.{mod-eq-of-lt}
 use borrow.Author.Tests.{eq-eqb}
@@ -17,11 +18,13 @@ use Rattle.lists.proofs.Pairs.{pairs-implies}
 use Rattle.lists.proofs.Order.{all-sorted, sum-sorted, sorted-ascends}
 use Rattle.lists.proofs.Walks.{sum-append}
 use Rattle.lists.proofs.Walks.{sum-none}
-use Rattle.lists.proofs.Merges.{all-unsorted, ascends-map}
+use Rattle.lists.proofs.Merges.{all-unsorted, ascends-map, map-sorted}
+use Rattle.words.specs.declared.Address.{Address}
 use Rattle.tables.specs.Values.{Tables}
 use Rattle.tables.specs.WellFormed.{
   Range,
   upto,
+  whole,
   spans,
   ranges,
   holesIn,
@@ -44,72 +47,106 @@ use Rattle.keeping.proofs.Cover.{within-in, within-out}
 use Rattle.keeping.proofs.Counting.{coverAt, once-parted, parted-once, ordered}
 use Rattle.keeping.proofs.Inside.{inCommon, inside-covered}
 use Rattle.keeping.proofs.PageStarts.{WholeSpan, coverSpans}
-use Rattle.keeping.proofs.Ranges.{ofHole, ofZombie, spansInOrder, all-inOrder}
+use Rattle.keeping.proofs.Ranges.{ofHole, ofZombie}
 use Rattle.keeping.proofs.WellFormedTests.{Clauses, clauses-hold, of-parted, of-loose, wholeSpan-of, of-wholeSpan}
-use Rattle.forms.specs.InOrder.{isAligned, spaced, isInside, untouched, rootsPass, rangesPass, namesPass, InOrder}
-use Rattle.forms.proofs.Spacing.{Before, Low, spaced-low, spaced-before, before-spaced, untouched-loose, loose-untouched}
+use Rattle.forms.specs.InOrder.{isInside, untouched, rootsPass, placed, passes, namesPass, InOrder}
+use Rattle.forms.proofs.Spacing.{isAligned, spaced, Before, Low, spaced-low, spaced-before, before-spaced, untouched-loose, loose-untouched}
 
 abbrev start : Range → ℕ
 start h = h .from
 
--- holes and zombies in one order, and with them free and live
-abbrev pub others : Tables → List Range
-others t = sorted start (holesIn t ++ sorted start (map ofZombie (t .zombies)))
-
+-- all ranges in one order
 abbrev pub allRanges : Tables → List Range
-allRanges t = sorted start (spansInOrder t ++ others t)
+allRanges t = sorted start (spans t ++ (holesIn t ++ map ofZombie (sorted (λ z. z .start .0) (t .zombies))))
 
 -- the tests in the code's order
 abbrev pub tested : Tables → Bool
 tested t =
     allowed (t .page) (t .va)
     && (rootsPass (t .page) (t .va) (t .roots)
-    && (rangesPass (t .page) (t .va) (t .roots) (allRanges t)
+    && (passes (t .page) (t .va) (t .roots) 0 (allRanges t)
     && (untouched 0 (holesIn t) && (pagesMatch t && namesPass (t .free) (t .zombies) (t .pages) (t .counter)))))
 
+-- the test of each range in turn is the three tests of all
+module _ (page va : ℕ) (roots : List Address) where
+  pub passes-parts : (b : ℕ) (l : List Range) → passes page va roots b l ≡ true →
+      (every (isAligned page) l ≡ true) × ((spaced b l ≡ true) × (every (isInside va roots) l ≡ true))
+  unfolding placed
+  passes-parts b [] e = (refl, (refl, refl))
+  passes-parts b (h ∷ l) e =
+      let p = both (placed page va roots b h) (passes page va roots (upto h) l) e in
+      let q = both (leb b (h .from)) _ (p .0) in
+      let r = both (leb (upto h) (2 ^ 63)) _ (q .1) in
+      let s = both (whole page (h .from)) _ (r .1) in
+      let u = both (whole page (h .size)) (isInside va roots h) (s .1) in
+      let k = passes-parts (upto h) l (p .1) in (
+        and-true (isAligned page h) _ (and-true (whole page (h .from)) (whole page (h .size)) (s .0) (u .0)) (k .0),
+        (
+          and-true (leb b (h .from)) _ (q .0) (and-true (leb (upto h) (2 ^ 63)) _ (r .0) (k .1 .0)),
+          and-true (isInside va roots h) _ (u .1) (k .1 .1),
+        ),
+      )
+
+  pub parts-pass : (b : ℕ) (l : List Range) → every (isAligned page) l ≡ true → spaced b l ≡ true → every (isInside va roots) l ≡ true →
+      passes page va roots b l ≡ true
+  unfolding placed
+  parts-pass b [] e f g = refl
+  parts-pass b (h ∷ l) e f g =
+      let a = both (isAligned page h) _ e in
+      let w = both (whole page (h .from)) (whole page (h .size)) (a .0) in
+      let p = both (leb b (h .from)) _ f in
+      let q = both (leb (upto h) (2 ^ 63)) _ (p .1) in
+      let i = both (isInside va roots h) _ g in
+      and-true (placed page va roots b h) _
+      (and-true (leb b (h .from)) _ (p .0)
+      (and-true (leb (upto h) (2 ^ 63)) _ (q .0)
+      (and-true (whole page (h .from)) _ (w .0) (and-true (whole page (h .size)) (isInside va roots h) (w .1) (i .0)))))
+      (parts-pass (upto h) l (a .1) (q .1) (i .1))
+
 module _ (t : Tables) where
+  zombies-are : map ofZombie (sorted (λ z. z .start .0) (t .zombies)) ≡ sorted start (map ofZombie (t .zombies))
+  zombies-are = map-sorted ofZombie start (t .zombies)
+
   -- what holds of every range of the tables, and of all in one order
   all-in : (P : Range → Type 0) → All P (ranges t) → All P (allRanges t)
   all-in P a =
       let z = map ofZombie (t .zombies) in
       let u = all-second P (spans t) (holesIn t ++ z) a in
-      all-sorted start P (spansInOrder t ++ others t)
-      (all-append P (spansInOrder t) (others t) (all-inOrder t P a)
-      (all-sorted start P (holesIn t ++ sorted start z)
+      rw zombies-are
+      (all-sorted start P (spans t ++ (holesIn t ++ sorted start z))
+      (all-append P (spans t) (holesIn t ++ sorted start z) (all-first P (spans t) (holesIn t ++ z) a)
       (all-append P (holesIn t) (sorted start z) (all-first P (holesIn t) z u) (all-sorted start P z (all-second P (holesIn t) z u)))))
-
-  pub all-spans : (P : Range → Type 0) → All P (allRanges t) → All P (spansInOrder t)
-  all-spans P a = all-first P (spansInOrder t) (others t) (all-unsorted start P (spansInOrder t ++ others t) a)
-
-  others-all : (P : Range → Type 0) → All P (allRanges t) → All P (holesIn t ++ sorted start (map ofZombie (t .zombies)))
-  others-all P a =
-      all-unsorted start P (holesIn t ++ sorted start (map ofZombie (t .zombies)))
-      (all-second P (spansInOrder t) (others t) (all-unsorted start P (spansInOrder t ++ others t) a))
-
-  pub all-holes : (P : Range → Type 0) → All P (allRanges t) → All P (holesIn t)
-  all-holes P a = all-first P (holesIn t) (sorted start (map ofZombie (t .zombies))) (others-all P a)
 
   all-out : (P : Range → Type 0) → All P (allRanges t) → All P (ranges t)
   all-out P a =
       let z = map ofZombie (t .zombies) in
-      all-append P (spans t) (holesIn t ++ z) (all-unsorted start P (spans t) (all-spans P a))
-      (all-append P (holesIn t) z (all-holes P a) (all-unsorted start P z (all-second P (holesIn t) (sorted start z) (others-all P a))))
+      let u : All P (spans t ++ (holesIn t ++ sorted start z)) = all-unsorted start P (spans t ++ (holesIn t ++ sorted start z)) (rw zombies-are at a) in
+      let v = all-second P (spans t) (holesIn t ++ sorted start z) u in
+      all-append P (spans t) (holesIn t ++ z) (all-first P (spans t) (holesIn t ++ sorted start z) u)
+      (all-append P (holesIn t) z (all-first P (holesIn t) (sorted start z) v) (all-unsorted start P z (all-second P (holesIn t) (sorted start z) v)))
+
+  pub all-spans : (P : Range → Type 0) → All P (allRanges t) → All P (spans t)
+  all-spans P a = all-first P (spans t) (holesIn t ++ map ofZombie (t .zombies)) (all-out P a)
+
+  pub all-holes : (P : Range → Type 0) → All P (allRanges t) → All P (holesIn t)
+  all-holes P a =
+      let z = map ofZombie (t .zombies) in
+      all-first P (holesIn t) z (all-second P (spans t) (holesIn t ++ z) (all-out P a))
 
   cover-all : (x : ℕ) → coverSpans (allRanges t) x ≡ coverSpans (ranges t) x
   cover-all x =
       let f : Range → ℕ = λ h. within (h .from) (h .size) x in
       let z = map ofZombie (t .zombies) in
-      omega (
+      rw zombies-are
+      (omega (
         arith,
-        sum-sorted start f (spansInOrder t ++ others t),
-        sum-append f (spansInOrder t) (others t),
-        sum-sorted start f (spans t),
-        sum-sorted start f (holesIn t ++ sorted start z),
+        sum-sorted start f (spans t ++ (holesIn t ++ sorted start z)),
+        sum-append f (spans t) (holesIn t ++ sorted start z),
         sum-append f (holesIn t) (sorted start z),
         sum-sorted start f z,
         sum-append f (spans t) (holesIn t ++ z),
         sum-append f (holesIn t) z,
-      )
+      ))
 
   cover-holes : (x : ℕ) → coverSpans (holesIn t) x ≤ coverSpans (ranges t) x
   cover-holes x =
@@ -126,14 +163,14 @@ module _ (t : Tables) where
 
   -- from the tests to the clauses
   pub tested-passes : InOrder t → tested t ≡ true → sound t ≡ true
-  unfolding sound rootsPass rangesPass namesPass
+  unfolding sound rootsPass namesPass
   tested-passes o e =
       let a = both (allowed (t .page) (t .va)) _ e in
       let b = both (rootsPass (t .page) (t .va) (t .roots)) _ (a .1) in
       let r = both (rootsDisjoint t) (rootsAligned t) (b .0) in
-      let c = both (rangesPass (t .page) (t .va) (t .roots) (allRanges t)) _ (b .1) in
-      let d = both (every (isAligned (t .page)) (allRanges t)) _ (c .0) in
-      let f = both (spaced 0 (allRanges t)) (every (isInside (t .va) (t .roots)) (allRanges t)) (d .1) in
+      let c = both (passes (t .page) (t .va) (t .roots) 0 (allRanges t)) _ (b .1) in
+      let d = passes-parts (t .page) (t .va) (t .roots) 0 (allRanges t) (c .0) in
+      let f = d .1 in
       let g = both (untouched 0 (holesIn t)) _ (c .1) in
       let h = both (pagesMatch t) _ (g .1) in
       let n = both (handlesDistinct t) _ (h .1) in
@@ -186,7 +223,7 @@ module _ (t : Tables) where
 
   -- and back
   pub passes-tested : sound t ≡ true → tested t ≡ true
-  unfolding sound rootsPass rangesPass namesPass
+  unfolding sound rootsPass namesPass
   passes-tested e =
       let c = clauses-hold t e in
       let a = both (allowed (t .page) (t .va)) _ e in
@@ -200,15 +237,15 @@ module _ (t : Tables) where
       let l = allRanges t in
       let positive : All (λ k. 0 < k .size) l = all-in _ (all-implies (WholeSpan (t .page)) _ (λ k w. w .size .positive) (ranges t) (c .whole)) in
       let once : (x : ℕ) → coverSpans l x ≤ 1 = λ x. omega (arith, cover-all x, parted-once start (λ k. k .size) (ranges t) (c .parted) x) in
-      let before : Pairs Before l = ordered start (λ k. k .size) 0 l positive (sorted-ascends start (spansInOrder t ++ others t)) once in
+      let before : Pairs Before l = ordered start (λ k. k .size) 0 l positive (sorted-ascends start (spans t ++ (holesIn t ++ map ofZombie (sorted (λ z. z .start .0) (t .zombies))))) once in
       let above : All (λ k. 0 ≤ k .from) l = all-implies (λ k. 0 < k .size) (λ k. 0 ≤ k .from) (λ k p. omega arith) l positive in
       let starts : All (λ k. 0 ≡ k .from → ⊥) (holesIn t) =
       all-implies (WholeSpan (t .page)) _ (λ k w q. omega (arith, w .start .positive)) (holesIn t) (all-holes _ (all-in _ (c .whole))) in
       and-true (allowed (t .page) (t .va)) _ (a .0)
       (and-true (rootsPass (t .page) (t .va) (t .roots)) _ (and-true (rootsDisjoint t) (rootsAligned t) (b .0) (d .0))
-      (and-true (rangesPass (t .page) (t .va) (t .roots) l) _
-      (and-true (every (isAligned (t .page)) l) _ (all-every _ _ (of-wholeSpan (t .page)) l (all-in _ (c .whole)))
-      (and-true (spaced 0 l) _ (before-spaced 0 l above (all-in Low (low c)) before) (all-every _ _ (λ k q. eq-eqb _ _ q) l (all-in _ (c .inside)))))
+      (and-true (passes (t .page) (t .va) (t .roots) 0 l) _
+      (parts-pass (t .page) (t .va) (t .roots) 0 l (all-every _ _ (of-wholeSpan (t .page)) l (all-in _ (c .whole)))
+      (before-spaced 0 l above (all-in Low (low c)) before) (all-every _ _ (λ k q. eq-eqb _ _ q) l (all-in _ (c .inside))))
       (and-true (untouched 0 (holesIn t)) _ (loose-untouched 0 (holesIn t) starts (c .loose)) (and-true (pagesMatch t) _ (j .0) (j .1)))))
 
 same-tests : (a b : Bool) → (a ≡ true → b ≡ true) → (b ≡ true → a ≡ true) → a ≡ b
@@ -221,15 +258,13 @@ pub tested-sound : (t : Tables) → InOrder t → tested t ≡ sound t
 tested-sound t o = same-tests (tested t) (sound t) (tested-passes t o) (passes-tested t)
 
 -- what is known of all ranges once they pass, for the tests after
-pub ranges-low : (t : Tables) → rangesPass (t .page) (t .va) (t .roots) (allRanges t) ≡ true → All Low (allRanges t)
-unfolding rangesPass
-ranges-low t e = spaced-low 0 (allRanges t) (both (spaced 0 (allRanges t)) _ (both (every (isAligned (t .page)) (allRanges t)) _ e .1) .0)
+pub ranges-low : (t : Tables) → passes (t .page) (t .va) (t .roots) 0 (allRanges t) ≡ true → All Low (allRanges t)
+ranges-low t e = spaced-low 0 (allRanges t) (passes-parts (t .page) (t .va) (t .roots) 0 (allRanges t) e .1 .0)
 
-pub spans-paged : (t : Tables) → 0 < t .page → rangesPass (t .page) (t .va) (t .roots) (allRanges t) ≡ true →
-    All (λ h. (t .page ≤ h .size) × (upto h ≤ 2 ^ 63)) (spansInOrder t)
-unfolding rangesPass
+pub spans-paged : (t : Tables) → 0 < t .page → passes (t .page) (t .va) (t .roots) 0 (allRanges t) ≡ true →
+    All (λ h. (t .page ≤ h .size) × (upto h ≤ 2 ^ 63)) (spans t)
 spans-paged t p e =
-    all-spans t _ (all-both _ _ (allRanges t) (every-all _ _ paged (allRanges t) (both (every (isAligned (t .page)) (allRanges t)) _ e .0)) (ranges-low t e))
+    all-spans t _ (all-both _ _ (allRanges t) (every-all _ _ paged (allRanges t) (passes-parts (t .page) (t .va) (t .roots) 0 (allRanges t) e .0)) (ranges-low t e))
   where
     paged : (h : Range) → isAligned (t .page) h ≡ true → t .page ≤ h .size
     paged h q =

@@ -1,7 +1,7 @@
 -- The tests of ranges in order as facts, and back: spaced ranges have no address in common, and ranges that have none are spaced; holes that do not
 -- touch their neighbours touch none. Assumes nothing.
 use mathlib.Core.Path.{_≡_, refl}
-use mathlib.Core.Bool.{true, _&&_, not}
+use mathlib.Core.Bool.{Bool, true, _&&_, not}
 use mathlib.Core.List.{List, [], _∷_}
 use Prim.Native.Nat.{ℕ, _+_, _-_, _≤_, _<_, _^_}
 use native.Mathlib.Omega.{arith}
@@ -15,7 +15,16 @@ use Rattle.words.specs.declared.Address.{Address}
 use Rattle.tables.specs.TakeRange.{apart}
 use Rattle.tables.specs.WellFormed.{Range, upto, whole}
 use Rattle.keeping.proofs.WellFormedTests.{Loose}
-use Rattle.forms.specs.InOrder.{spaced, untouched, rootsPass}
+use Rattle.forms.specs.InOrder.{untouched, rootsPass}
+
+-- aligned, nonzero
+abbrev pub isAligned : ℕ → Range → Bool
+isAligned page h = whole page (h .from) && whole page (h .size)
+
+-- each starts at or after the end of the one before, the first at or after `b`, and ends at or below 2^63
+abbrev pub spaced : ℕ → List Range → Bool
+spaced b [] = true
+spaced b (h ∷ l) = leb b (h .from) && (leb (upto h) (2 ^ 63) && spaced (upto h) l)
 
 -- one ends where the other starts, or before
 abbrev pub Before : Range → Range → Type 0
@@ -86,3 +95,12 @@ roots-low page va roots h e = every-all _ _ low roots (both (pairwise (λ a b. a
   where
     low : (a : Address) → (whole page (a .0) && leb (a .0) (2 ^ 63 - va)) ≡ true → a .0 + va ≤ 2 ^ 63
     low a q = omega (arith, leb-true (a .0) (2 ^ 63 - va) (both (whole page (a .0)) (leb (a .0) (2 ^ 63 - va)) q .1))
+
+pub roots-apart : (page va : ℕ) (roots : List Address) → rootsPass page va roots ≡ true → pairwise (λ a b. apart va (a .0) (b .0)) roots ≡ true
+unfolding rootsPass
+roots-apart page va roots e = both (pairwise (λ a b. apart va (a .0) (b .0)) roots) _ e .0
+
+pub whole-positive : (page n : ℕ) → whole page n ≡ true → 0 < n
+whole-positive page n e =
+    let ne : n ≡ 0 → ⊥ = eqb-false n 0 (not-true (eqb n 0) (both (not (eqb n 0)) _ e .0)) in
+    omega arith

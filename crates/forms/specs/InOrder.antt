@@ -1,9 +1,8 @@
--- The tests that the code makes of ranges in ascending address, one pass each, and what an array of ranges holds.
+-- The tests that the code makes of ranges in ascending address, one pass each.
 use mathlib.Core.Bool.{Bool, true, _&&_, not}
-use mathlib.Core.List.{List, [], _∷_, map}
+use mathlib.Core.List.{List, [], _∷_, _++_, map}
 use Prim.Native.Nat.{ℕ, _-_, _^_}
 use lib.Dec.{ltb, leb, eqb}
-use lib.ListN.{take}
 use Rattle.lists.specs.Tests.{every, pairwise, distinct}
 use Rattle.lists.specs.Order.{Ascends}
 use Rattle.lists.specs.Walks.{sum}
@@ -11,27 +10,19 @@ use Rattle.words.specs.declared.Address.{Address}
 use Rattle.tables.specs.Values.{Tables}
 use Rattle.tables.specs.TakeRange.{apart}
 use Rattle.tables.specs.declared.FreeRegion.{FreeRegion}
+use Rattle.tables.specs.declared.LiveBuffer.{LiveBuffer}
+use Rattle.tables.specs.declared.Hole.{Hole}
 use Rattle.tables.specs.declared.Zombie.{Zombie}
 use Rattle.tables.specs.declared.Page.{Page}
 use Rattle.tables.specs.WellFormed.{range, upto, common, whole}
 use Rattle.tables.specs.WellFormed as wellFormed
-use Rattle.forms.specs.declared.Range.{Range}
-use Rattle.forms.specs.declared.Ranges.{Ranges}
 
-abbrev pub rangeOf : Range → wellFormed.Range
-rangeOf h = range (h .from) (h .size)
+-- the ranges of free and live, and of holes and zombies
+abbrev pub spansIn : List FreeRegion → List LiveBuffer → List wellFormed.Range
+spansIn free live = map (λ f. range (f .start .0) (f .size)) free ++ map (λ b. range (b .start .0) (b .size)) live
 
-unfoldable pub rangesOf : Ranges → List wellFormed.Range
-rangesOf t = map rangeOf (take (t .count) (t .cells))
-
--- aligned, nonzero
-abbrev pub isAligned : ℕ → wellFormed.Range → Bool
-isAligned page h = whole page (h .from) && whole page (h .size)
-
--- each starts at or after the end of the one before, the first at or after `b`, and ends at or below 2^63
-abbrev pub spaced : ℕ → List wellFormed.Range → Bool
-spaced b [] = true
-spaced b (h ∷ l) = leb b (h .from) && (leb (upto h) (2 ^ 63) && spaced (upto h) l)
+abbrev pub unmappedIn : List Hole → List Zombie → List wellFormed.Range
+unmappedIn holes zombies = map (λ h. range (h .start .0) (h .size)) holes ++ map (λ z. range (z .start .0) (z .size)) zombies
 
 -- how many addresses of a range are in the roots
 abbrev pub bytesInside : ℕ → List Address → wellFormed.Range → ℕ
@@ -46,12 +37,18 @@ abbrev pub untouched : ℕ → List wellFormed.Range → Bool
 untouched b [] = true
 untouched b (h ∷ l) = not (eqb b (h .from)) && untouched (upto h) l
 
--- the tests of the roots, of all ranges, of handles and ids
+-- a range that starts at or after `b`, ends at or below 2^63, is aligned, nonzero, inside the roots
+unfoldable pub placed : ℕ → ℕ → List Address → ℕ → wellFormed.Range → Bool
+placed page va roots b h = leb b (h .from) && (leb (upto h) (2 ^ 63) && (whole page (h .from) && (whole page (h .size) && isInside va roots h)))
+
+-- each is so after the end of the one before, the first after `b`
+abbrev pub passes : ℕ → ℕ → List Address → ℕ → List wellFormed.Range → Bool
+passes page va roots b [] = true
+passes page va roots b (h ∷ l) = placed page va roots b h && passes page va roots (upto h) l
+
+-- the tests of the roots, of handles and ids
 unfoldable pub rootsPass : ℕ → ℕ → List Address → Bool
 rootsPass page va roots = pairwise (λ a b. apart va (a .0) (b .0)) roots && every (λ a. whole page (a .0) && leb (a .0) (2 ^ 63 - va)) roots
-
-unfoldable pub rangesPass : ℕ → ℕ → List Address → List wellFormed.Range → Bool
-rangesPass page va roots l = every (isAligned page) l && (spaced 0 l && every (isInside va roots) l)
 
 unfoldable pub namesPass : List FreeRegion → List Zombie → List Page → ℕ → Bool
 namesPass free zombies pages counter =

@@ -32,7 +32,7 @@ use Rattle.keeping.proofs.NewPages.{PagesTo, making-ceilings, made-soun
 use Rattle.keeping.proofs.InsertFree.{Inserting, Inserted, inserts-free-pullable}
 use Rattle.keeping.proofs.Pull.{Pulling}
 use Rattle.keeping.proofs.PullOrder.{pulling-all, pulling-others}
-use Rattle.keeping.proofs.PullIn.{PulledIn, pulls-in}
+use Rattle.keeping.proofs.PullIn.{PulledIn, Spare, pulls-in}
 use Rattle.keeping.proofs.Holds.{holds-from, holds-to, holds-named, holds-then, holds-give, holds-looked, holds-cond, holds-must, drives-access}
 
 -- The range taken is of whole pages, and `f` free bytes make up what is not missing.
@@ -74,6 +74,18 @@ module _ (lost : ℕ → ℕ) (p f : ℕ) (o : Room) where
   Ready none t = (o .missing ≡ 0) × Made t
   Ready (some r) t = Newly lost p f o r t
 
+  -- the pages made are in hand, bare
+  pub made-inserting : 0 < o .missing → (u : Tables) → Made u →
+      Inserting lost (within (o .start + o .missing) (o .size - o .missing)) S.none p f (o .start) (o .missing) (u .free) u
+  made-inserting pos u w =
+      record {
+        sound = made-sound lost p f (o .start) (o .size) (o .missing) u w;
+        range = made-whole lost p f (o .start) (o .size) (o .missing) u w pos;
+        few = w .making .few;
+        known = w .making .known;
+        list = refl;
+      }
+
   pub inserts-new : Holds Made (insertNew o) Ready (Left lost)
   unfolding insertNew
   inserts-new =
@@ -88,16 +100,6 @@ module _ (lost : ℕ → ℕ) (p f : ℕ) (o : Room) where
 
       rest : ℕ → ℕ
       rest = within (a + m) (o .size - m)
-
-      inserting : 0 < m → (u : Tables) → Made u → Inserting lost rest S.none p f a m (u .free) u
-      inserting pos u w =
-          record {
-            sound = made-sound lost p f a (o .size) m u w;
-            range = made-whole lost p f a (o .size) m u w pos;
-            few = w .making .few;
-            known = w .making .known;
-            list = refl;
-          }
 
       newly : 0 < m → (l : List FreeRegion) (r : FreeRegion) (t : Tables) → Inserted lost rest S.none p f a m (o .stream) l r t →
           Pullable (withFree (withoutFree (from r) (t .free)) t) → Newly lost p f o r t
@@ -119,7 +121,7 @@ module _ (lost : ℕ → ℕ) (p f : ℕ) (o : Room) where
       inserts pos =
           holds-then (λ _. Made) (holds-must (drives-access a m) (λ t w. tt) (λ c t w. making-ceilings (w .making)))
           (λ _. holds-named (λ u w.
-          holds-from (λ t e. rw e (inserting pos u w, w .making .pullable))
+          holds-from (λ t e. rw e (made-inserting pos u w, w .making .pullable))
           (holds-then _ (inserts-free-pullable lost rest S.none p f a m (o .stream) (u .free))
           (λ r. holds-from (λ t i. newly pos (u .free) r t (i .0) (i .1)) (holds-give (some r))))))
 
@@ -142,31 +144,33 @@ module _ (lost : ℕ → ℕ) (p f : ℕ) (o : Room) (g : Measured p f o) where
         room = i .room;
       }
 
-  pub fills-all : o .missing ≡ 0 → Holds (Made lost p f o) (fill o none) (Filled lost (o .size) (o .stream) 0) (Left lost)
-  unfolding fill
-  fills-all z =
-      holds-looked (λ u w.
-      holds-from (λ t e. rw e (pulling u w))
-      (holds-to filled-all (pulls-in lost S.none p (o .size) 127 [] (u .free) o (record { start = rw here (g .start); size = g .size }) (inl (omega arith)))))
-    where
-      here : end ≡ o .start
-      here = omega arith
+  module _ (z : o .missing ≡ 0) where
+    here : end ≡ o .start
+    here = omega arith
 
-      hand : ℕ → ℕ
-      hand x = S.none x + within end (o .size) x
+    pub all-range : WholeRange p end (o .size)
+    all-range = record { start = rw here (g .start); size = g .size }
 
-      pulling : (u : Tables) → Made lost p f o u → Pulling lost hand S.none p (o .size) 127 [] (pullOrder (o .stream) (u .free)) u
-      pulling u w =
-          let made : end - o .start ≡ 0 = omega arith in
-          pulling-all lost hand p (o .stream) (o .size) 127 u
-          (sound-as (w .sound) (λ x. rw here (omega arith)) (λ x. rw made (within-none (o .start) x)))
-          (w .making .few) (w .making .known .page) (g .size .aligned) (w .making .pullable)
-          (omega (arith, w .making .known .free, g .rest))
+    pub all-due : (u : Tables) → Made lost p f o u →
+        Pulling lost (λ x. S.none x + within end (o .size) x) S.none p (o .size) 127 [] (pullOrder (o .stream) (u .free)) u
+    all-due u w =
+        let made : end - o .start ≡ 0 = omega arith in
+        pulling-all lost (λ x. S.none x + within end (o .size) x) p (o .stream) (o .size) 127 u
+        (sound-as (w .sound) (λ x. rw here (omega arith)) (λ x. rw made (within-none (o .start) x)))
+        (w .making .few) (w .making .known .page) (g .size .aligned) (w .making .pullable)
+        (omega (arith, w .making .known .free, g .rest))
+
+    pub fills-all : Holds (Made lost p f o) (fill o none) (Filled lost (o .size) (o .stream) 0) (Left lost)
+    unfolding fill
+    fills-all =
+        holds-looked (λ u w.
+        holds-from (λ t e. rw e (all-due u w))
+        (holds-to filled-all (pulls-in lost S.none p (o .size) 127 [] (u .free) o all-range (inl (omega arith)))))
 
 -- Pages were missing: as many bytes as the new region merged with need not be pulled, and are dropped at the end of the range.
 module _ (lost : ℕ → ℕ) (p f : ℕ) (o : Room) (g : Measured p f o) (r : FreeRegion) where
   -- how much the new region merged with
-  abbrev extra : ℕ
+  abbrev pub extra : ℕ
   extra = r .size - o .missing
 
   -- the free regions have no more than was asked for
@@ -190,17 +194,17 @@ module _ (lost : ℕ → ℕ) (p f : ℕ) (o : Room) (g : Measured p f o) (r : F
       }
 
   module _ (u : Tables) (w : Newly lost p f o r u) (short : r .size < o .size) where
-    abbrev place : ℕ
+    abbrev pub place : ℕ
     place = o .start + o .missing
 
-    abbrev lacks : ℕ
+    abbrev pub lacks : ℕ
     lacks = o .size - r .size
 
-    abbrev others : List FreeRegion
+    abbrev pub others : List FreeRegion
     others = withoutFree (from r) (u .free)
 
     -- what is left of the range
-    abbrev left : ℕ → ℕ
+    abbrev pub left : ℕ → ℕ
     left = within (place + lacks) extra
 
     aligned : lacks % p ≡ 0
@@ -215,8 +219,8 @@ module _ (lost : ℕ → ℕ) (p f : ℕ) (o : Room) (g : Measured p f o) (r : F
     others-some : 0 < length others
     others-some = sum-some (λ q. q .size) others (omega (arith, others-all))
 
-    pulling : Pulling lost (λ x. left x + within place lacks x) S.none p lacks 128 (r ∷ []) (pullOrder (o .stream) others) u
-    pulling =
+    pub behind-due : Pulling lost (λ x. left x + within place lacks x) S.none p lacks 128 (r ∷ []) (pullOrder (o .stream) others) u
+    behind-due =
         let size : o .size - o .missing - lacks ≡ extra = omega (arith, w .least .1) in
         pulling-others lost _ p (o .stream) lacks 128 u
         (sound-as (w .sound) (λ x. rw size at (cut x)) (λ x. refl))
@@ -241,17 +245,21 @@ module _ (lost : ℕ → ℕ) (p f : ℕ) (o : Room) (g : Measured p f o) (r : F
           room = ⊎-elim (λ e. absurd (omega (arith, w .least))) (λ e. inr e) (i .room);
         }
 
-    range : WholeRange p place lacks
-    range =
+    pub behind-range : WholeRange p place lacks
+    behind-range =
         record {
           start = whole-past (o .missing) (g .start) (g .pages);
           size = record { positive = omega arith; aligned = aligned };
         }
 
+    -- every other region is pulled whole
+    pub behind-spare : Spare lost left p lacks 128 (r ∷ []) others o
+    behind-spare = inr (others-all, (others-some, omega arith))
+
     fills-behind : Holds (λ t. t ≡ u) (pullIn o lacks others) (Filled lost (o .size) (o .stream) extra) (Left lost)
     fills-behind =
-        holds-from (λ t e. rw e pulling)
-        (holds-to filled-behind (pulls-in lost left p lacks 128 (r ∷ []) others o range (inr (others-all, (others-some, omega arith)))))
+        holds-from (λ t e. rw e behind-due)
+        (holds-to filled-behind (pulls-in lost left p lacks 128 (r ∷ []) others o behind-range behind-spare))
 
   -- What is dropped is as much as the new region merged with.
   pub fills-rest : Holds (Newly lost p f o r) (fill o (some r)) (Filled lost (o .size) (o .stream) extra) (Left lost)

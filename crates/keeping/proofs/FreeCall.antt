@@ -44,7 +44,7 @@ module _ {lost : ℕ → ℕ} (b : LiveBuffer) (t : Tables) (k : Kept lost t) (m
         freeIds = k .sound .freeIds;
       }
 
-  inserting : Inserting lost none none (t .page) (bytes (t .free)) (b .start .0) (b .size) (t .free) (withLive (others b t) t)
+  pub inserting : Inserting lost none none (t .page) (bytes (t .free)) (b .start .0) (b .size) (t .free) (withLive (others b t) t)
   inserting =
       let fewer = length-without (λ c. c .start .0) 0 b (t .live) (k .sound .liveRises) m in
       record {

@@ -113,7 +113,7 @@ module _ {lost : ℕ → ℕ} (n s : ℕ) (r : FreeRegion) (t : Tables) (h : Han
       (λ e. omega (arith, fewer, more, length-putRest n r (others r t) (h .most)))
       (h .room)
 
-  hand-kept : Kept lost (withLive (buffers n s r t) (withFree (regions n r t) t))
+  pub hand-kept : Kept lost (withLive (buffers n s r t) (withFree (regions n r t) t))
   hand-kept =
       record {
         sound = sound-spans (h .sound) hand-spans;

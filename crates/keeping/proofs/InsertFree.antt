@@ -22,7 +22,17 @@ use Rattle.keeping.specs.Cover.{within, equal, coverFree, idsAt}
 use Rattle.keeping.specs.Sound.{WholeRange, Sound, Ceilings, Left}
 use Rattle.keeping.specs.Counts.{Few, Pullable, Known}
 use Rattle.keeping.specs.Holds.{Holds}
-use Rattle.keeping.proofs.Holds.{holds-from, holds-to, holds-then, holds-give, holds-looked, holds-known, holds-must, drives-record}
+use Rattle.keeping.proofs.Holds.{
+  holds-from,
+  holds-to,
+  holds-then,
+  holds-give,
+  holds-looked,
+  holds-change,
+  holds-known,
+  holds-must,
+  drives-record,
+}
 use Rattle.keeping.proofs.Cover.{within-in, equal-other, equal-le}
 use Rattle.keeping.proofs.Sounds.{sound-free, sound-counter}
 use Rattle.keeping.proofs.Whole.{whole-least, whole-bytes}
@@ -259,3 +269,14 @@ inserts-free-pullable lost hand bare p f a n s l =
     (λ t. (length (t .zombies) + length l ≤ 128) × (length (t .zombies) + length l + length (t .holes) ≤ 512))
     (λ k c t q. q)
     lost hand bare p f a n s l))
+
+-- At most one id is spent.
+pub insert-counts : (a n s c : ℕ) → Holds (λ t. t .counter ≡ c) (insertFree a n s) (λ _ t. t .counter ≤ c + 1) (λ _ t. t .counter ≤ c + 1)
+unfolding insertFree
+insert-counts a n s c =
+    holds-looked (λ u e.
+    holds-from (λ t q. rw q e)
+    (holds-then (λ _ t. t .counter ≡ c) (holds-change _ (λ t q. q)) (λ _.
+    holds-then (λ _ t. t .counter ≡ c) (holds-must (drives-record (u .counter) s) (λ t q. omega arith) (λ k t q. omega arith)) (λ _.
+    holds-then (λ _ t. t .counter ≡ c) (holds-change _ (λ t q. q)) (λ _.
+    holds-then (λ _ t. t .counter ≤ c + 1) (holds-change _ (λ t q. omega arith)) (λ _. holds-give _))))))

@@ -12,7 +12,7 @@ use Rattle.keeping.proofs.Cover.{within-in, within-out, within-le}
 use Rattle.keeping.proofs.Counting.{coverAt}
 
 -- `f` summed over the `n` addresses from `a` on
-abbrev count : ℕ → ℕ → (ℕ → ℕ) → ℕ
+abbrev pub count : ℕ → ℕ → (ℕ → ℕ) → ℕ
 count zero a f = 0
 count (suc n) a f = f a + count n (suc a) f
 
@@ -20,12 +20,12 @@ count-none : (n a : ℕ) → count n a (λ x. 0) ≡ 0
 count-none zero a = refl
 count-none (suc n) a = omega (arith, count-none n (suc a))
 
-count-plus : (n a : ℕ) (f g : ℕ → ℕ) → count n a (λ x. f x + g x) ≡ count n a f + count n a g
+pub count-plus : (n a : ℕ) (f g : ℕ → ℕ) → count n a (λ x. f x + g x) ≡ count n a f + count n a g
 count-plus zero a f g = omega arith
 count-plus (suc n) a f g = omega (arith, count-plus n (suc a) f g)
 
 -- the addresses of one range that are in another: the first is or is not, then the rest
-count-within : (n a b m : ℕ) → count n a (within b m) ≡ min (a + n) (b + m) - max a b
+pub count-within : (n a b m : ℕ) → count n a (within b m) ≡ min (a + n) (b + m) - max a b
 count-within zero a b m = omega arith
 count-within (suc n) a b m =
     let u = min (suc a + n) (b + m) in
@@ -62,7 +62,7 @@ module _ {A : Type 0} (lo size : A → ℕ) where
   abbrev pub inCommon : ℕ → ℕ → List A → ℕ
   inCommon a n l = sum (λ r. min (a + n) (lo r + size r) - max a (lo r)) l
 
-  count-cover : (n a : ℕ) (l : List A) → count n a (coverAt lo size l) ≡ inCommon a n l
+  pub count-cover : (n a : ℕ) (l : List A) → count n a (coverAt lo size l) ≡ inCommon a n l
   count-cover n a [] = count-none n a
   count-cover n a (r ∷ l) =
       omega (arith, count-plus n a (within (lo r) (size r)) (coverAt lo size l), count-within n a (lo r) (size r), count-cover n a l)
@@ -75,6 +75,9 @@ module _ {A : Type 0} (lo size : A → ℕ) where
         go (inl p) q = omega (arith, within-out a n x (inl p))
         go (inr p) (inr q) = omega (arith, within-out a n x (inr q))
         go (inr p) (inl q) = omega (arith, within-le a n x, count-full n a (coverAt lo size l) once (count-cover n a l ∙ e) x p q)
+
+    pub inside-most : inCommon a n l ≤ n
+    inside-most = omega (arith, count-cover n a l, count-le n a (coverAt lo size l) once)
 
     pub covered-inside : ((x : ℕ) → within a n x ≤ coverAt lo size l x) → inCommon a n l ≡ n
     covered-inside h = sym (count-cover n a l) ∙ full-count n a (coverAt lo size l) (λ x p q. omega (arith, once x, h x, within-in a n x p q))

@@ -23,6 +23,7 @@ pub mod HandOver
 pub mod Malloc
 pub mod FreeCall
 pub mod Inside
+pub mod Bounds
 pub mod Ranges
 pub mod WellFormedTests
 pub mod WellFormedEnters

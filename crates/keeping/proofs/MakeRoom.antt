@@ -75,7 +75,7 @@ fills lost p f o g (some r) =
         record { most = omega (arith, g .rest); enough = λ h. absurd (omega (arith, g .rest, w .least .0)) }
 
 -- the free regions are of whole pages, and so is what is missing
-aligned-missing : (lost : ℕ → ℕ) (p f k n : ℕ) (t : Tables) → TakesFrom lost p f k n t → (n - f) % p ≡ 0
+pub aligned-missing : (lost : ℕ → ℕ) (p f k n : ℕ) (t : Tables) → TakesFrom lost p f k n t → (n - f) % p ≡ 0
 aligned-missing lost p f k n t w =
     ⊎-elim
     (λ h. aligned-sub p n f (omega arith) (size .aligned) (rw (w .known .page, w .known .free) at bytes-aligned))
@@ -89,26 +89,29 @@ aligned-missing lost p f k n t w =
     bytes-aligned = aligned-rest (t .page) n (bytes (t .free)) (w .size .aligned) (whole-bytes (t .page) n (t .free) (w .size) (w .sound .free) .aligned)
 
 module _ (lost : ℕ → ℕ) (p f n s : ℕ) where
-  abbrev count : ℕ
+  abbrev pub count : ℕ
   count = (n - f) / p
 
-  abbrev taken : ℕ → Room
+  -- the room of the range from `a` on
+  abbrev pub taken : ℕ → Room
   taken a = record { start = a; size = n; missing = n - f; stream = s }
 
-  makes-taken : Whole p n → (n - f) % p ≡ 0 → (a : ℕ) →
-      Holds (TakenRange lost p f count n a) (makePages count (taken a) a >> (insertNew (taken a) >>= λ r. fill (taken a) r)) (Roomed lost f n s) (Left lost)
-  makes-taken size pages a =
-      holds-named (λ u w.
-      holds-from (λ t e. rw e (begins u w))
-      (holds-then (λ _. Made lost p f (taken a)) (makes-missing lost p f (taken a) pages)
-      (λ _. holds-then (Ready lost p f (taken a)) (inserts-new lost p f (taken a)) (fills lost p f (taken a) (measured u w)))))
-    where
-      begins : (u : Tables) → TakenRange lost p f count n a u → PagesTo lost p f count a n a u
-      begins u w =
-          pages-begin lost p f count a n u (w .sound) (w .start) (rw (w .making .known .page) size) (omega (arith, div-add-mod' (n - f) p)) (w .making)
+  module _ (size : Whole p n) (pages : (n - f) % p ≡ 0) (a : ℕ) where
+    -- the range is taken, and no page of it is made
+    pub taken-begins : (u : Tables) → TakenRange lost p f count n a u → PagesTo lost p f count a n a u
+    taken-begins u w =
+        pages-begin lost p f count a n u (w .sound) (w .start) (rw (w .making .known .page) size) (omega (arith, div-add-mod' (n - f) p)) (w .making)
 
-      measured : (u : Tables) → TakenRange lost p f count n a u → Measured p f (taken a)
-      measured u w = record { start = rw (w .making .known .page) at (w .start); size = size; pages = pages; rest = refl }
+    pub taken-measured : (u : Tables) → TakenRange lost p f count n a u → Measured p f (taken a)
+    taken-measured u w = record { start = rw (w .making .known .page) at (w .start); size = size; pages = pages; rest = refl }
+
+    makes-taken :
+        Holds (TakenRange lost p f count n a) (makePages count (taken a) a >> (insertNew (taken a) >>= λ r. fill (taken a) r)) (Roomed lost f n s) (Left lost)
+    makes-taken =
+        holds-named (λ u w.
+        holds-from (λ t e. rw e (taken-begins u w))
+        (holds-then (λ _. Made lost p f (taken a)) (makes-missing lost p f (taken a) pages)
+        (λ _. holds-then (Ready lost p f (taken a)) (inserts-new lost p f (taken a)) (fills lost p f (taken a) (taken-measured u w)))))
 
   pub makes-room : Holds (TakesFrom lost p f count n) (makeRoom n s) (Roomed lost f n s) (Left lost)
   unfolding makeRoom

@@ -78,11 +78,11 @@ module _ (lost : ℕ → ℕ) (n : ℕ) where
           }
 
 -- What fit found or what room was made is ready to be handed over.
-abbrev Handed : (ℕ → ℕ) → ℕ → ℕ → FreeRegion → Tables → Type 0
+abbrev pub Handed : (ℕ → ℕ) → ℕ → ℕ → FreeRegion → Tables → Type 0
 Handed lost f n r t = (d : ℕ × ℕ) × (Dropped f n (d .1) × Handing (losing lost d) n r t)
 
 module _ (lost : ℕ → ℕ) (p f n s : ℕ) (size : Whole p n) where
-  found : (r : FreeRegion) (t : Tables) → Fitted lost p f 127 n (some r) t → Handed lost f n r t
+  pub found : (r : FreeRegion) (t : Tables) → Fitted lost p f 127 n (some r) t → Handed lost f n r t
   found r t (w, m) = (
     (0, 0),
     (
@@ -98,7 +98,7 @@ module _ (lost : ℕ → ℕ) (p f n s : ℕ) (size : Whole p n) where
     ),
   )
 
-  made : (r : FreeRegion) (t : Tables) → Roomed lost f n s r t → Handed lost f n r t
+  pub made : (r : FreeRegion) (t : Tables) → Roomed lost f n s r t → Handed lost f n r t
   made r t w = (
     w .dropped,
     (w .bounded, record { sound = w .sound; member = w .member; size = w .size; most = w .most; few = w .few; room = w .room }),
@@ -124,11 +124,13 @@ module _ (lost : ℕ → ℕ) (p f n s : ℕ) (size : Whole p n) where
         known = w .1 .1;
       }
 
+  -- what is not refused can be made room for
+  pub admits-room : Holds (Fitting lost p f 127) (roomRefused n) (λ _. TakesFrom lost p f ((n - f) / p) n) (Left lost)
+  admits-room = holds-to (λ _ t w. takes-from t (w .0) (w .1)) (refused-admits lost n (Fitting lost p f 127) (λ t w. w .0))
+
   gives-region : (x : Option FreeRegion) → Holds (Fitted lost p f 127 n x) (orRoom n s x) (Handed lost f n) (Left lost)
   unfolding orRoom
-  gives-region none =
-      holds-then (λ _ t. Admits n t × Fitting lost p f 127 t) (refused-admits lost n (Fitting lost p f 127) (λ t w. w .0))
-      (λ _. holds-from (λ t w. takes-from t (w .0) (w .1)) (holds-to made (makes-room lost p f n s)))
+  gives-region none = holds-then (λ _. TakesFrom lost p f ((n - f) / p) n) admits-room (λ _. holds-to made (makes-room lost p f n s))
   gives-region (some r) = holds-from (found r) (holds-give r)
 
 -- What malloc leaves, where `f` bytes were free and `n` were asked for.
@@ -144,6 +146,21 @@ hands-out lost f n s r =
 abbrev pub Asked : (ℕ → ℕ) → ℕ → Tables → Type 0
 Asked lost n t = Kept lost t × (Whole (t .page) n × (length (t .free) + length (t .live) ≤ 127))
 
+-- malloc starts from what stands through cleanup and fit, where `f` bytes are free
+pub begins : (lost : ℕ → ℕ) (n f : ℕ) (u : Tables) → Asked lost n u → bytes (u .free) ≡ f → Fitting lost (u .page) f 127 u
+begins lost n f u (k, (size, spare)) e =
+    let c = k .ceilings in (
+      k,
+      (
+        record { pages = omega (arith, c .pages); spans = spare; zombies = c .zombies; holes = c .holes; roots = c .roots },
+        record { page = refl; free = e },
+      ),
+    )
+
+-- and what stands through them is what malloc starts from
+pub begins-again : (lost : ℕ → ℕ) (p f n : ℕ) (t : Tables) → Whole p n → Fitting lost p f 127 t → Asked lost n t
+begins-again lost p f n t size w = (w .0, (rw (w .1 .1 .page) size, w .1 .0 .spans))
+
 -- A malloc drops no more than was free, and nothing where the free bytes suffice.
 pub mallocs-losing : (lost : ℕ → ℕ) (f n s : ℕ) →
     Holds (λ t. Asked lost n t × (bytes (t .free) ≡ f)) (mallocSteps n s) (λ _. Losing lost f n) (Left lost)
@@ -151,20 +168,10 @@ unfolding mallocSteps
 mallocs-losing lost f n s =
     holds-named (λ u w.
     let p = u .page in
-    holds-from (λ t e. rw e (begins u (w .0) (w .1)))
+    holds-from (λ t e. rw e (begins lost n f u (w .0) (w .1)))
     (holds-then (λ _. Fitting lost p f 127) (cleans-up lost p f 127)
     (λ _. holds-then (Fitted lost p f 127 n) (fits lost p f 127 n s)
     (λ x. holds-then (Handed lost f n) (gives-region lost p f n s (w .0 .1 .0) x) (hands-out lost f n s)))))
-  where
-    begins : (u : Tables) → Asked lost n u → bytes (u .free) ≡ f → Fitting lost (u .page) f 127 u
-    begins u (k, (size, spare)) e =
-        let c = k .ceilings in (
-          k,
-          (
-            record { pages = omega (arith, c .pages); spans = spare; zombies = c .zombies; holes = c .holes; roots = c .roots },
-            record { page = refl; free = e },
-          ),
-        )
 
 pub mallocs : (lost : ℕ → ℕ) (n s : ℕ) → Holds (Asked lost n) (mallocSteps n s) (λ _. KeptBut lost) (Left lost)
 mallocs lost n s =

@@ -68,7 +68,7 @@ module _ (page va initial : ℕ) (c : Configured page va initial) where
   abbrev empty : Tables
   empty = noTables page va
 
-  empty-kept : Kept none empty
+  pub empty-kept : Kept none empty
   empty-kept =
       record {
         sound =
@@ -101,7 +101,7 @@ module _ (page va initial : ℕ) (c : Configured page va initial) where
   reserved-sound b t w = rw (w .tables) at (sound-as (w .sound) (λ x. within-none b x) (λ x. refl))
 
   -- initial pages are asked for: the root's hole has room for them
-  takes-from : 0 < initial → (b : ℕ) (t : Tables) → Reserved none 0 empty b t →
+  pub takes-from : 0 < initial → (b : ℕ) (t : Tables) → Reserved none 0 empty b t →
       TakesFrom none page 0 ((initial * page - 0) / page) (initial * page) (rooted 0 b empty)
   takes-from some b t w =
       let holes = length-hole (b + 0) (va - 0) [] in

@@ -49,11 +49,11 @@ module _ (lost rest : ℕ → ℕ) (p lacks c : ℕ) (keep others : List FreeReg
   abbrev pub Spare : Type 0
   Spare = (c ≤ 127) ⊎ ((lacks ≡ bytes others) × ((0 < length others) × (c ≤ 128)))
 
-  spare-most : Spare → c ≤ 128
+  pub spare-most : Spare → c ≤ 128
   spare-most w = ⊎-elim (λ e. omega arith) (λ e. e .1 .1) w
 
   module _ (range : WholeRange p place lacks) (spare : Spare) where
-    pulled-spare : (zs : List Zombie) (t : Tables) → Pulled lost filling none p lacks c keep order zs t →
+    pub pulled-spare : (zs : List Zombie) (t : Tables) → Pulled lost filling none p lacks c keep order zs t →
         Pulled lost filling none p lacks 127 keep [] zs t
     pulled-spare zs t w =
         record {
@@ -88,8 +88,14 @@ module _ (lost rest : ℕ → ℕ) (p lacks c : ℕ) (keep others : List FreeReg
             ))
             e
 
+    -- the pages of the parts pulled can be moved into the range
+    pub pulled-fills : (zs : List Zombie) (u : Tables) → Pulled lost filling none p lacks 127 keep [] zs u → Movable lost filling p place 127 (u .free) zs u
+    pulled-fills zs u w =
+        pulled-movable lost filling p place 127 (u .free) zs lacks keep [] u w refl (range .start)
+        (λ x le lt. omega (arith, sound-once (w .sound) x, within-in place lacks x le lt))
+
     -- the pages are there
-    moved-inserting : (n : ℕ) (l : List FreeRegion) (t : Tables) → n ≡ lacks → Moved lost filling p place n 127 l t →
+    pub moved-inserting : (n : ℕ) (l : List FreeRegion) (t : Tables) → n ≡ lacks → Moved lost filling p place n 127 l t →
         Inserting lost rest none p (bytes l) place lacks l t
     moved-inserting n l t e w =
         record {
@@ -106,13 +112,8 @@ module _ (lost rest : ℕ → ℕ) (p lacks c : ℕ) (keep others : List FreeReg
         holds-then (Pulled lost filling none p lacks c keep order) (pulls lost filling none p (o .stream) lacks c keep order (spare-most spare))
         (λ zs. holds-looked (λ u w.
         let v = pulled-spare zs u w in
-        holds-from {P = Movable lost filling p place 127 (u .free) zs} (λ t e. rw e (movable zs u v)) (rw (w .page) (fills zs (u .free) (v .total) (v .kept)))))
+        holds-from {P = Movable lost filling p place 127 (u .free) zs} (λ t e. rw e (pulled-fills zs u v)) (rw (w .page) (fills zs (u .free) (v .total) (v .kept)))))
       where
-        movable : (zs : List Zombie) (u : Tables) → Pulled lost filling none p lacks 127 keep [] zs u → Movable lost filling p place 127 (u .free) zs u
-        movable zs u w =
-            pulled-movable lost filling p place 127 (u .free) zs lacks keep [] u w refl (range .start)
-            (λ x le lt. omega (arith, sound-once (w .sound) x, within-in place lacks x le lt))
-
         fills : (zs : List Zombie) (l : List FreeRegion) → sum (λ z. z .size) zs ≡ lacks → All (λ q. Member q l) keep →
             Holds (Movable lost filling p place 127 l zs) (movePages (pagesIn p zs) place >> (must (access place lacks) >> insertFree place lacks (o .stream)))
             (PulledIn lost rest p place lacks (o .stream) keep) (Left lost)

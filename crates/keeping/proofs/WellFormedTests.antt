@@ -93,7 +93,7 @@ wholeSpan-of p h e =
 pub of-wholeSpan : (p : ℕ) (h : Range) → WholeSpan p h → (whole p (h .from) && whole p (h .size)) ≡ true
 of-wholeSpan p h w = and-true (whole p (h .from)) (whole p (h .size)) (of-whole p (h .from) (w .start)) (of-whole p (h .size) (w .size))
 
-apart-of : (va : ℕ) (a b : Address) → apart va (a .0) (b .0) ≡ true → Parted (λ a. a .0) (λ a. va) a b
+pub apart-of : (va : ℕ) (a b : Address) → apart va (a .0) (b .0) ≡ true → Parted (λ a. a .0) (λ a. va) a b
 apart-of va a b e =
     ⊎-elim (λ f. omega (arith, leb-true (a .0 + va) (b .0) f)) (λ f. omega (arith, leb-true (b .0 + va) (a .0) f))
     (either (leb (a .0 + va) (b .0)) (leb (b .0 + va) (a .0)) e)

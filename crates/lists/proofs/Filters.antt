@@ -1,8 +1,8 @@
--- What a filter keeps of a list: what passed the test, the order, and with those that did not pass the length; and two filters, one after the other.
--- Assumes nothing.
+-- What a filter keeps of a list: what passed the test, the order, and with those that did not pass the length; two filters, one after the other; and
+-- the filter of two lists in one. Assumes nothing.
 use mathlib.Core.Path.{_≡_, refl, ap}
 use mathlib.Core.Bool.{Bool, true, false, cond, not, _&&_}
-use mathlib.Core.List.{List, [], _∷_}
+use mathlib.Core.List.{List, [], _∷_, _++_}
 use Prim.Native.Nat.{ℕ, _+_}
 use native.Mathlib.Omega.{arith}
 use lib.ListN.{length}
@@ -54,6 +54,15 @@ module _ {ℓ} {A : Type ℓ} where
       go true false e f h = rw f h
       go false true e f h = rw e h
       go false false e f h = h
+
+  pub filter-append : (p : A → Bool) (l m : List A) → filter p (l ++ m) ≡ filter p l ++ filter p m
+  filter-append p [] m = refl
+  filter-append p (x ∷ l) m = go (p x) (filter-append p l m)
+    where
+      go : (b : Bool) → filter p (l ++ m) ≡ filter p l ++ filter p m →
+          cond b (x ∷ filter p (l ++ m)) (filter p (l ++ m)) ≡ cond b (x ∷ filter p l) (filter p l) ++ filter p m
+      go true e = ap (λ r. x ∷ r) e
+      go false e = e
 
   pub filter-all : (l : List A) → filter (λ x. true) l ≡ l
   filter-all [] = refl

@@ -8,11 +8,11 @@ use Prim.Native.Nat.{ℕ, suc, _+_, _≤_, _<_}
 use native.Mathlib.Omega.{arith}
 use borrow.Author.Tests.{eq-eqb, ne-eqb, leb-true, leb-false}
 use lib.Dec.{leb, eqb}
-use lib.ListN.{length}
+use lib.ListN.{length, getD}
 use Rattle.lists.specs.Tests.{All, Member, filter, first}
 use Rattle.lists.specs.Order.{put, sorted, Rises, without, smaller, least}
 use Rattle.lists.specs.Walks.{sum}
-use Rattle.lists.proofs.Tests.{cases-lt, all-filter}
+use Rattle.lists.proofs.Tests.{cases-lt, all-filter, all-at}
 use Rattle.lists.proofs.Order.{without-none}
 use Rattle.lists.proofs.Walks.{length-sum}
 use Rattle.lists.proofs.Filters.{rises-filter}
@@ -25,6 +25,9 @@ module _ {A : Type 0} where
   pub all-members : (P : A → Type 0) (l : List A) → ((x : A) → Member x l → P x) → All P l
   all-members P [] f = tt
   all-members P (x ∷ l) f = (f x (inl refl), all-members P l (λ y m. f y (inr m)))
+
+  pub member-at : (l : List A) (i : ℕ) (d : A) → i < length l → Member (getD l i d) l
+  member-at l i d h = all-at (λ x. Member x l) l i d (all-members (λ x. Member x l) l (λ x m. m)) h
 
   pub member-filter : (p : A → Bool) (x : A) (l : List A) → Member x (filter p l) → Member x l × (p x ≡ true)
   member-filter p x (y ∷ l) m = go (p y) refl (λ n. member-filter p x l n) m

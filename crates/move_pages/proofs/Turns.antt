@@ -23,7 +23,7 @@ use Rattle.tables.proofs.Packs.{zombies-count}
 use Rattle.driving.specs.Ran.{Ran, Point, point}
 use Rattle.driving.specs.Endings.{ending}
 use Rattle.driving.specs.declared.Ended.{Ended}
-use Rattle.driving.specs.declared.Ended.the-variants.{On, Ends}
+use Rattle.driving.specs.declared.Ended.the-variants.{Ends}
 use Rattle.driving.proofs.Ran.{next, stop, looked, changed}
 use Rattle.move_pages.specs.Moving.{pulled}
 
@@ -54,10 +54,6 @@ module _ (z : Zombies) (i : ℕ) (k : KeptZombies z) where
 
   pub pulled-none : z .count ≤ i → pulled i z ≡ []
   pulled-none h = drop-of-length-le (zombiesOf z) {i = i} (omega (arith, zombies-count z k))
-
--- a step that ended did not go on
-pub not-on : {A : Type 0} {o : Outcome} → Ends o ≡ On → A
-not-on e = let z : _≡_ {A = ℕ} 0 1 = cc in absurd (omega arith)
 
 pub stops-as : {xs : List ℕ} {s u : Point} {m : Act} {d : Ended} {o : Outcome} → d ≡ Ends o → Ran m xs s (ends o) u → Ran m xs s (ending d) u
 stops-as e r = rw e r

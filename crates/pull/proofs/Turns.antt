@@ -31,12 +31,13 @@ use Rattle.keeping.proofs.Pull.{spansAfter, pulling-next}
 use Rattle.regions.specs.Pulling.{besides, nextToPull}
 use Rattle.regions.specs.declared.Made.{Made}
 use Rattle.regions.proofs.Pulling.{pull-next, besides-without, rises-besides}
+use Rattle.driving.proofs.Endings.{ends-as}
 use Rattle.driving.specs.Ran.{Ran, Point, point}
 use Rattle.driving.specs.declared.Ended.the-variants.{On, Ends}
 use Rattle.driving.specs.Endings.{endingWith}
 use Rattle.pull.specs.Pulls.{pulling, partOf, Takeable, PullsOne, Pullable, Pulls}
 use Rattle.pull.specs.declared.Pulled.{Pulled}
-use Rattle.pull.proofs.Ways.{joinedTo, ends-as, pulls-stop, pulls-on, joined-none, joined-more}
+use Rattle.pull.proofs.Ways.{joinedTo, pulls-stop, pulls-on, joined-none, joined-more}
 
 -- Where the loop stands: `left` bytes lack, the regions of `order` are still to be pulled, and what the rest does the whole does.
 pub record Due (s lacks : ℕ) (made : Made) (xs : List ℕ) (f₀ : FreeRegions) (z₀ : Zombies) (k : ℕ) (l₀ : List ℕ)

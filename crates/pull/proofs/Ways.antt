@@ -7,7 +7,7 @@ use native.Mathlib.Omega.{arith}
 use borrow.Author.Tests.{eq-eqb, ne-eqb}
 use lib.Dec.{eqb}
 use Rattle.tables.specs.Values.{withFree, withZombies}
-use Rattle.tables.specs.Steps.{Ending, on, ends, Step}
+use Rattle.tables.specs.Steps.{Ending, on, ends}
 use Rattle.tables.specs.Driver.{must, isComplete, wait}
 use Rattle.tables.specs.InsertFree.{from, withoutFree, putRest}
 use Rattle.tables.specs.Pull.{settle, pullOne, pull}
@@ -15,19 +15,8 @@ use Rattle.tables.specs.declared.FreeRegion.{FreeRegion}
 use Rattle.tables.specs.declared.Zombie.{Zombie}
 use Rattle.tables.specs.declared.Outcome.{Outcome}
 use Rattle.driving.specs.Ran.{Ran, Point, point}
-use Rattle.driving.specs.declared.Ended.{Ended}
-use Rattle.driving.specs.declared.Ended.the-variants.{On, Ends}
 use Rattle.driving.proofs.Ran.{next, stop, gave, changed, taken, passed}
-use Rattle.driving.specs.Endings.{endingWith}
 use Rattle.pull.specs.Pulls.{partOf}
-
--- a step that ended did not go on
-pub not-on : {A : Type 0} {o : Outcome} → Ends o ≡ On → A
-not-on e = let z : _≡_ {A = ℕ} 0 1 = cc in absurd (omega arith)
-
-pub ends-as : {A : Type 0} (a : A) {m : Step A} {xs : List ℕ} {u v : Point} {d : Ended} {o : Outcome} → d ≡ Ends o → Ran m xs u (ends o) v →
-    Ran m xs u (endingWith a d) v
-ends-as a e r = rw e r
 
 -- a region of the same stream
 pub settle-own : {xs : List ℕ} {u : Point} (s : ℕ) (r : FreeRegion) → eqb (r .stream) s ≡ true → Ran (settle s r) xs u (on tt) u

@@ -27,7 +27,7 @@ Apart misread l right wrong =
     (played closedPool (l ++ right ∷ []) ≡ l ++ right ∷ []) × (playedBy misread closedPool (l ++ right ∷ []) ≡ l ++ wrong ∷ [])
 
 -- 1. Refusing 8 before the fit, though a free region merged over two roots may exceed va_size.
-abbrev refusesFirst : ℕ → ℕ → Step Outcome
+abbrev pub refusesFirst : ℕ → ℕ → Step Outcome
 refusesFirst n s = do
   cleanup
   t ← tables
@@ -87,7 +87,7 @@ freshTail n r =
       changeFree (putFree (region (from r + n) (r .size - n) (r .stream) (t .counter)))
       countOn)
 
-abbrev renumbersTail : ℕ → ℕ → Step Outcome
+abbrev pub renumbersTail : ℕ → ℕ → Step Outcome
 renumbersTail n s = do
   cleanup
   o ← fit n s
@@ -117,7 +117,7 @@ walkOn (suc n) i = do
     cond c (clean i z) nothing
     walkOn n (i + 1)) nothing
 
-abbrev walksOn : ℕ → ℕ → Step Outcome
+abbrev pub walksOn : ℕ → ℕ → Step Outcome
 walksOn n s = do
   t ← tables
   walkOn (length (t .zombies)) 0

@@ -12,7 +12,6 @@ use Rattle.tables.specs.WellFormed.{wellFormed}
 use Rattle.tables.specs.declared.Pool.{Pool}
 use Rattle.tables.specs.declared.Outcome.{Outcome}
 use Rattle.tables.specs.declared.Outcome.the-variants.{PoolClosed, PoolStopped, NotWellFormed, ShortLog, IdsSpent}
-use Rattle.tables.specs.declared.Called.{Called}
 
 -- The pool, the outcome, the records that stand in the log, and how many answers were taken.
 pub record Reply : Type 0 where
@@ -24,10 +23,6 @@ pub record Reply : Type 0 where
 -- One answer for each record, but the log of 17 ends with the wanted call.
 abbrev pub reply : Pool → Outcome → List Record → Reply
 reply p o rs = record { pool = p; outcome = o; records = rs; taken = cond (is 17 o) (length rs - 1) (length rs) }
-
--- what the code returns; the records are in the log
-abbrev pub called : Reply → Called
-called r = record { pool = r .pool; outcome = r .outcome; records = length (r .records); taken = r .taken }
 
 -- 1 to 7, 16 and 19 change nothing and log nothing.
 abbrev pub refused : Pool → Outcome → Reply

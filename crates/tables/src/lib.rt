@@ -1,4 +1,4 @@
-// The pool value: its tables, each with cells and a count, and what a call hands back. The rules over them are in specs/.
+// The pool value: its tables, each with cells and a count, and what a call answers. The rules over them are in specs/.
 use words::Address;
 use words::EventId;
 use words::Handle;
@@ -143,13 +143,4 @@ pub enum Outcome {
     InvalidPointer(Address),
     AnswersRanOut,
     BadConfiguration,
-}
-
-// What a call hands back: `records` were written to the log, `taken` answers were taken.
-#[repr(C)]
-pub struct Called {
-    pub pool: Pool,
-    pub outcome: Outcome,
-    pub records: usize,
-    pub taken: usize,
 }

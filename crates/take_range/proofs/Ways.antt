@@ -5,7 +5,6 @@ use mathlib.Core.Bool.{true, false, not}
 use mathlib.Core.List.{List, [], _∷_, _++_}
 use mathlib.Core.Option.{some, none}
 use Prim.Native.Nat.{ℕ, _+_, _-_, _<_}
-use native.Mathlib.Omega.{arith}
 use lib.ListN.{length, getD}
 use Rattle.words.specs.Answers.{valueOf}
 use Rattle.words.specs.declared.Address.{Address}
@@ -25,13 +24,10 @@ use Rattle.tables.specs.declared.Outcome.the-variants.{Incredible}
 use Rattle.driving.specs.Ran.{Ran, Point, point}
 use Rattle.driving.specs.declared.Ended.{Ended}
 use Rattle.driving.specs.declared.Ended.the-variants.{On, Ends}
+use Rattle.driving.proofs.Endings.{not-on}
 use Rattle.driving.proofs.Ran.{next, stop, gave, ended, looked, changed, taken, passed}
 use Rattle.driving.specs.Endings.{endingWith}
 use Rattle.take_range.specs.Taking.{reserveEnded}
-
--- a step that ended did not go on
-not-on : {A : Type 0} {o : Outcome} → Ends o ≡ On → A
-not-on e = let z : _≡_ {A = ℕ} 0 1 = cc in absurd (omega arith)
 
 -- the driver was asked for a root and answered `x`
 module _ {xs : List ℕ} {k : ℕ} {t : Tables} {l m : List ℕ} (page va n : ℕ) (p : t .page ≡ page) (v : t .va ≡ va) where

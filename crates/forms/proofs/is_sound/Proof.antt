@@ -1,21 +1,23 @@
 -- `forms::is_sound` meets its contract: its tests in a row are `tested`, which is `sound` of tables in order; what each leans on is known from those
 -- before it. Assumes nothing.
-use mathlib.Core.Path.{_≡_, sym, _∙_}
+use mathlib.Core.Path.{_≡_, ap, sym, _∙_}
 use mathlib.Core.Bool.{Bool, true, _&&_}
 use mathlib.Core.List.{_++_}
 use Prim.Native.Nat.{_≤_, _<_, _^_}
 use native.Mathlib.Omega.{arith}
 use borrow.Author.Needs.{needs}
 use borrow.Author.Tests.{not-true, not-false}
+use Rattle.lists.specs.Order.{sorted}
 use Rattle.lists.proofs.Order.{sorted-ascends}
-use Rattle.lists.proofs.Merges.{ascends-map}
+use Rattle.lists.proofs.Maps.{all-unmap}
 use Rattle.tables.specs.Values.{Tables, tablesOf}
-use Rattle.tables.specs.WellFormed.{allowed, spans, holesIn, pagesMatch, sound}
+use Rattle.tables.specs.WellFormed.{allowed, holesIn, pagesMatch, sound}
 use Rattle.keeping.proofs.WellFormedTests.{allowed-of}
-use Rattle.keeping.proofs.Ranges.{ofHole, spansInOrder}
-use Rattle.forms.specs.InOrder.{rangesOf, untouched, rootsPass, rangesPass, namesPass}
+use Rattle.keeping.proofs.Ranges.{ofHole}
+use Rattle.forms.specs.InOrder.{spansIn, unmappedIn, untouched, rootsPass, passes, namesPass}
 use Rattle.forms.proofs.Ceilings.{counted}
-use Rattle.forms.proofs.Passes.{others, allRanges, tested-sound, all-holes, ranges-low, spans-paged}
+use Rattle.forms.proofs.Spacing.{Low}
+use Rattle.forms.proofs.Passes.{allRanges, tested-sound, all-holes, ranges-low, spans-paged}
 use Rattle.forms.proofs.is_sound.Statement.{statement}
 use Rattle.forms.proofs.is_sound.Tie as tie
 
@@ -69,87 +71,39 @@ at-tables c = c .before .before .before .before
 abbrev at-start : tie.After-zombies → tie.Start
 at-start c = at-tables c .before .before .before .before .before
 
-spans-in-order-requires : tie.Need-spans-in-order-requires
-unfolding tablesOf
-spans-in-order-requires c κs =
+zombies-sorted-requires : tie.Need-zombies-sorted-requires
+zombies-sorted-requires c κs =
     let s = at-start c in
-    (counted (s .args .p) (s .pre .0) .spans, (s .pre .1 .free, s .pre .1 .live))
-
-spans-are : (c : tie.After-spans-in-order) → rangesOf (c .spans-in-order .result) ≡ spansInOrder (tables (at-start (c .before)))
-unfolding tablesOf
-spans-are c = c .spans-in-order .ensures .1
-
-hole-ranges-requires : tie.Need-hole-ranges-requires
-hole-ranges-requires c κs =
-    let s = at-start (c .before) in
-    omega (arith, counted (s .args .p) (s .pre .0) .holes)
-
-holes-are : (c : tie.After-hole-ranges) → rangesOf (c .hole-ranges .result) ≡ holesIn (tables (at-start (c .before .before)))
-unfolding tablesOf
-holes-are c = c .hole-ranges .ensures .1
-
-with-zombies-requires : tie.Need-with-zombies-requires
-unfolding tablesOf
-with-zombies-requires c κs =
-    let s = at-start (c .before .before) in
-    let k = counted (s .args .p) (s .pre .0) in (
-      (omega (arith, k .holes, c .hole-ranges .ensures .0), k .zombies),
-      rw (holes-are c) (ascends-map ofHole (λ h. h .from) 0 (tables s .holes) (s .pre .1 .holes)),
-    )
-
-others-are : (c : tie.After-with-zombies) → rangesOf (c .with-zombies .result) ≡ others (tables (at-start (c .before .before .before)))
-unfolding tablesOf
-others-are c = c .with-zombies .ensures .1 ∙ rw (holes-are (c .before))
-
-merge-requires : tie.Need-merge-requires
-merge-requires c κs =
-    let t = c .before .before in
-    let s = at-start (t .before) in
-    let k = counted (s .args .p) (s .pre .0) in (
-      omega (arith, k .spans, k .holes, t .spans-in-order .ensures .0, c .before .hole-ranges .ensures .0, c .with-zombies .ensures .0),
-      (
-        rw (spans-are t) (sorted-ascends (λ h. h .from) (spans (tables s))),
-        rw (others-are c) (sorted-ascends (λ h. h .from) (holesIn (tables s) ++ _)),
-      ),
-    )
-
-all-are : (c : tie.After-merge) → rangesOf (c .merge .result) ≡ allRanges (tables (at-start (c .before .before .before .before)))
-all-are c = c .merge .ensures .1 ∙ rw (spans-are (c .before .before .before), others-are (c .before))
+    counted (s .args .p) (s .pre .0) .zombies
 
 ranges-sound-requires : tie.Need-ranges-sound-requires
 unfolding tablesOf
 ranges-sound-requires c κs =
-    let t = c .before .before .before in
-    let z = t .before in
+    let z = c .before in
     let s = at-start z in
     let k = counted (s .args .p) (s .pre .0) in (
+      (k .spans, (omega (arith, k .zombies, c .zombies-sorted .ensures .0), omega (arith, k .holes, c .zombies-sorted .ensures .0))),
       (
+        ((k .roots, page-known (at-tables z .before .before .before)), rooted (at-tables z)),
         (
-          omega (
-            arith,
-            k .spans,
-            k .holes,
-            t .spans-in-order .ensures .0,
-            c .before .before .hole-ranges .ensures .0,
-            c .before .with-zombies .ensures .0,
-            c .merge .ensures .0,
-          ),
-          k .roots,
+          (s .pre .1 .free, s .pre .1 .live),
+          (s .pre .1 .holes, rw (c .zombies-sorted .ensures .1) (sorted-ascends (λ z. z .start .0) (tables s .zombies))),
         ),
-        page-known (at-tables z .before .before .before),
       ),
-      rooted (at-tables z),
     )
 
 -- what has passed before the ranges, and at them
 abbrev at-zombies : tie.After-ranges-sound → tie.After-zombies
-at-zombies c = c .before .before .before .before .before
+at-zombies c = c .before .before
 
 ranged : (c : tie.After-ranges-sound) →
     let t = tables (at-start (at-zombies c)) in
-    c .ranges-sound .result ≡ rangesPass (t .page) (t .va) (t .roots) (allRanges t)
+    c .ranges-sound .result ≡ passes (t .page) (t .va) (t .roots) 0 (allRanges t)
 unfolding tablesOf
-ranged c = c .ranges-sound .ensures ∙ rw (all-are (c .before))
+ranged c =
+    let t = tables (at-start (at-zombies c)) in
+    c .ranges-sound .ensures
+    ∙ ap (λ l. passes (t .page) (t .va) (t .roots) 0 (sorted (λ h. h .from) (spansIn (t .free) (t .live) ++ unmappedIn (t .holes) l))) (c .before .zombies-sorted .ensures .1)
 
 -- what `sound` comes to once the roots have passed, and so on after each test
 abbrev names : Tables → Bool
@@ -157,7 +111,7 @@ names t = namesPass (t .free) (t .zombies) (t .pages) (t .counter)
 
 past-roots : (z : tie.After-zombies) →
     let t = tables (at-start z) in
-    sound t ≡ (rangesPass (t .page) (t .va) (t .roots) (allRanges t) && (untouched 0 (holesIn t) && (pagesMatch t && names t)))
+    sound t ≡ (passes (t .page) (t .va) (t .roots) 0 (allRanges t) && (untouched 0 (holesIn t) && (pagesMatch t && names t)))
 past-roots z =
     let s = at-start z in
     sym (tested-sound (tables s) (s .pre .1)) ∙ rw (allows (at-tables z .before .before .before), rooted (at-tables z))
@@ -169,7 +123,7 @@ returns-3 c =
 
 ranges-pass : (c : tie.Else3) →
     let t = tables (at-start (at-zombies (c .before))) in
-    rangesPass (t .page) (t .va) (t .roots) (allRanges t) ≡ true
+    passes (t .page) (t .va) (t .roots) 0 (allRanges t) ≡ true
 ranges-pass c = sym (ranged (c .before)) ∙ not-false (c .before .ranges-sound .result) (c .if3 .left)
 
 past-ranges : (c : tie.Else3) →
@@ -177,44 +131,42 @@ past-ranges : (c : tie.Else3) →
     sound t ≡ (untouched 0 (holesIn t) && (pagesMatch t && names t))
 past-ranges c = past-roots (at-zombies (c .before)) ∙ rw (ranges-pass c)
 
-ranges-untouched-requires : tie.Need-ranges-untouched-requires
-ranges-untouched-requires c κs =
-    let h = c .before .before .before .before in
-    let s = at-start (h .before .before) in
-    let t = tables s in (
-      omega (arith, counted (s .args .p) (s .pre .0) .holes, h .hole-ranges .ensures .0),
-      rw (holes-are h) (all-holes t _ (ranges-low t (ranges-pass c))),
-    )
+holes-untouched-requires : tie.Need-holes-untouched-requires
+unfolding tablesOf
+holes-untouched-requires c κs =
+    let s = at-start (at-zombies (c .before)) in
+    let t = tables s in
+    (omega (arith, counted (s .args .p) (s .pre .0) .holes), all-unmap ofHole Low (t .holes) (all-holes t Low (ranges-low t (ranges-pass c))))
 
-untouches : (c : tie.After-ranges-untouched) → c .ranges-untouched .result ≡ untouched 0 (holesIn (tables (at-start (at-zombies (c .before .before)))))
-untouches c = c .ranges-untouched .ensures ∙ rw (holes-are (c .before .before .before .before .before))
+untouches : (c : tie.After-holes-untouched) → c .holes-untouched .result ≡ untouched 0 (holesIn (tables (at-start (at-zombies (c .before .before)))))
+unfolding tablesOf
+untouches c = c .holes-untouched .ensures
 
 returns-4 : tie.Need-returns-4
 returns-4 c =
     let d = c .before in
-    sym (past-ranges (d .before) ∙ rw (sym (untouches d) ∙ not-true (d .ranges-untouched .result) (c .if4 .taken)))
+    sym (past-ranges (d .before) ∙ rw (sym (untouches d) ∙ not-true (d .holes-untouched .result) (c .if4 .taken)))
 
 past-holes : (c : tie.Else4) →
     let t = tables (at-start (at-zombies (c .before .before .before))) in
     sound t ≡ (pagesMatch t && names t)
 past-holes c =
     let d = c .before in
-    past-ranges (d .before) ∙ rw (sym (untouches d) ∙ not-false (d .ranges-untouched .result) (c .if4 .left))
+    past-ranges (d .before) ∙ rw (sym (untouches d) ∙ not-false (d .holes-untouched .result) (c .if4 .left))
 
 pages-match-requires : tie.Need-pages-match-requires
 unfolding tablesOf
 pages-match-requires c κs =
     let e = c .before .before .before in
-    let m = e .before .before .before .before .before in
-    let z = m .before in
+    let z = at-zombies (e .before) in
     let s = at-start z in
     let k = counted (s .args .p) (s .pre .0) in
     let page = page-known (at-tables z .before .before .before) .0 in
-    ((k .pages, omega (arith, k .spans, m .spans-in-order .ensures .0)), (page, rw (spans-are m) (spans-paged (tables s) page (ranges-pass e))))
+    ((k .pages, (k .spans, page)), ((s .pre .1 .free, s .pre .1 .live), spans-paged (tables s) page (ranges-pass e)))
 
 matches : (c : tie.After-pages-match) → c .pages-match .result ≡ pagesMatch (tables (at-start (at-zombies (c .before .before .before .before .before))))
 unfolding tablesOf
-matches c = c .pages-match .ensures ∙ rw (spans-are (c .before .before .before .before .before .before .before .before .before))
+matches c = c .pages-match .ensures
 
 returns-5 : tie.Need-returns-5
 returns-5 c =
@@ -242,13 +194,10 @@ is-sound-spec =
     returns
     roots-sound-requires
     returns-2
-    spans-in-order-requires
-    hole-ranges-requires
-    with-zombies-requires
-    merge-requires
+    zombies-sorted-requires
     ranges-sound-requires
     returns-3
-    ranges-untouched-requires
+    holes-untouched-requires
     returns-4
     pages-match-requires
     returns-5

@@ -12,9 +12,10 @@ use Rattle.tables.specs.Driver.{must, map}
 use Rattle.tables.specs.NewPages.{at}
 use Rattle.tables.specs.Pull.{handleAt}
 use Rattle.tables.proofs.Packs.{pages-pack, pages-count}
+use Rattle.driving.proofs.Endings.{not-on}
 use Rattle.driving.specs.Ran.{Ran, point}
 use Rattle.driving.specs.Endings.{ending}
-use Rattle.move_pages.proofs.Turns.{not-on, mapped-as, move-on, move-stop}
+use Rattle.move_pages.proofs.Turns.{mapped-as, move-on, move-stop}
 use Rattle.move_pages.proofs.Sounds.{fewer, few, kept-left, kept-there, waiting-next}
 use Rattle.move_pages.proofs.move_page.Statement.{statement}
 use Rattle.move_pages.proofs.move_page.Tie as tie

@@ -10,11 +10,12 @@ use lib.ListN.{length}
 use Rattle.tables.specs.Values.{Tables, pagesOf, withPages}
 use Rattle.tables.specs.Steps.{Ending}
 use Rattle.tables.specs.Pull.{starts, movePages}
+use Rattle.driving.proofs.Endings.{not-on}
 use Rattle.driving.specs.Ran.{Ran, Point, point}
 use Rattle.keeping.proofs.Whole.{aligned-pages}
 use Rattle.keeping.proofs.PageStarts.{length-starts}
 use Rattle.move_pages.specs.Moving.{Waiting}
-use Rattle.move_pages.proofs.Turns.{starts-more, starts-none, mul-more, not-on}
+use Rattle.move_pages.proofs.Turns.{starts-more, starts-none, mul-more}
 use Rattle.move_pages.proofs.Sounds.{page-positive, fits-page}
 use Rattle.move_pages.proofs.move_zombie.Statement.{statement}
 use Rattle.move_pages.proofs.move_zombie.Tie as tie

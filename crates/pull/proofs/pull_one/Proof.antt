@@ -10,9 +10,10 @@ use Rattle.tables.specs.InsertFree.{from, putRest, withoutFree}
 use Rattle.tables.specs.Pull.{settle}
 use Rattle.tables.proofs.Packs.{free-count, free-kept, free-pack, zombies-count, zombies-kept, zombies-pack}
 use Rattle.keeping.proofs.Rest.{length-putRest}
+use Rattle.driving.proofs.Endings.{not-on, ends-as}
 use Rattle.driving.specs.Endings.{ending}
 use Rattle.pull.specs.Pulls.{pulling, partOf}
-use Rattle.pull.proofs.Ways.{not-on, ends-as, pull-stop, pull-on}
+use Rattle.pull.proofs.Ways.{pull-stop, pull-on}
 use Rattle.pull.proofs.pull_one.Statement.{statement}
 use Rattle.pull.proofs.pull_one.Tie as tie
 

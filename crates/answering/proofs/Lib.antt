@@ -1,0 +1,5 @@
+pub mod Ends
+pub mod Rules
+pub mod Steps
+pub mod Calls
+pub mod Unchanged

@@ -1,0 +1,95 @@
+-- What the steps of a call leave is what its rule hands back. Assumes nothing.
+use mathlib.Core.Path.{_≡_, refl, ap, sym, _∙_}
+use mathlib.Core.Bool.{Bool, true, false, cond, _||_}
+use mathlib.Core.List.{List}
+use Prim.Native.Nat.{ℕ, _-_, _≤_, _/_}
+use native.Mathlib.Omega.{arith}
+use lib.ListN.{length}
+use Rattle.words.proofs.Log.{written-none}
+use Rattle.tables.specs.Values.{Tables, opened, stopped, tablesOf, poolOf}
+use Rattle.tables.specs.Kept.{KeptPool}
+use Rattle.tables.specs.Steps.{Step}
+use Rattle.tables.specs.Outcomes.{is}
+use Rattle.tables.specs.HandsBack.{Reply, refused, finished}
+use Rattle.tables.specs.declared.Pool as tables
+use Rattle.tables.specs.declared.Outcome.{Outcome}
+use Rattle.tables.proofs.Packs.{pool-whole}
+use Rattle.driving.specs.Pools.{CallRan}
+use Rattle.driving.specs.declared.Stepped.{Stepped}
+use Rattle.driving.proofs.Ran.{log-is}
+use Rattle.calls.specs.Replies.{Replies, called}
+use Rattle.calls.specs.Leaving.{leaving}
+use Rattle.calls.specs.declared.Pool.{Pool}
+use Rattle.calls.specs.declared.Called.{Called}
+
+-- a pool of kept tables, with another state
+pub with-state : (s : ℕ) (p : tables.Pool) → KeptPool p →
+    record {
+      state = s;
+      page = p .page;
+      va = p .va;
+      counter = p .counter;
+      free = p .free;
+      live = p .live;
+      holes = p .holes;
+      zombies = p .zombies;
+      pages = p .pages;
+      roots = p .roots;
+    } ≡ poolOf s (tablesOf p)
+unfolding poolOf
+with-state s p k =
+    ap (λ q. record {
+      state = s;
+      page = q .page;
+      va = q .va;
+      counter = q .counter;
+      free = q .free;
+      live = q .live;
+      holes = q .holes;
+      zombies = q .zombies;
+      pages = q .pages;
+      roots = q .roots;
+    }) (pool-whole p k)
+
+module _ (p : Pool) (s : Stepped) where
+  -- 17
+  pub left-short : is 17 (s .outcome) ≡ true → leaving p s ≡ record { pool = p; outcome = s .outcome; records = s .made; taken = s .made - 1 }
+  left-short e = rw e
+
+  pub left-by : is 17 (s .outcome) ≡ false →
+      leaving p s
+      ≡ record {
+        pool = record { value = poolOf (cond (is 14 (s .outcome) || is 15 (s .outcome)) stopped opened) (tablesOf (s .pool)) };
+        outcome = s .outcome;
+        records = s .made;
+        taken = s .made;
+      }
+  left-by e = rw e
+
+taken-none : (b : Bool) → _≡_ {A = ℕ} (cond b 0 0) 0
+taken-none true = refl
+taken-none false = refl
+
+-- nothing changed, nothing logged
+pub refused-is : (p : Pool) (o : Outcome) → record { pool = p; outcome = o; records = 0; taken = 0 } ≡ called (refused (p .value) o)
+refused-is p o = λ i. record { pool = p; outcome = o; records = 0; taken = sym (taken-none (is 17 o)) i }
+
+pub replies-none : {r : Called} {l : List ℕ} (w : Reply) (p : Pool) (o : Outcome) → w ≡ refused (p .value) o → r ≡ called (refused (p .value) o) → Replies w r l l
+replies-none {l = l} w p o e h = rw e record { answer = h; cells = sym (written-none l 0) }
+
+-- the steps went from the tables that were read
+module _ {m : Step Outcome} {bound : ℕ} {xs : List ℕ} {q : tables.Pool} {l : List ℕ} {s : Stepped} {l′ : List ℕ} (p : Pool) (t : Tables)
+    (same : tablesOf q ≡ t) (c : CallRan m bound xs q l s l′) where
+  left-is : leaving p s ≡ called (finished (p .value) (m xs 0 t))
+  unfolding finished
+  left-is =
+      let r = c .walked .ran in
+      let made : s .made ≡ length (r .records) = omega (arith, r .made) in
+      rw (← same, r .goes, c .outcome, made)
+
+  pub replies-left : {w : Reply} {r : Called} → w ≡ finished (p .value) (m xs 0 t) → r ≡ leaving p s → Replies w r l l′
+  unfolding finished
+  replies-left h e = rw h record { answer = e ∙ left-is; cells = rw (← same) (log-is (c .walked .ran)) }
+
+pub long : (l : List ℕ) → 2048 ≤ length l / 4 → 8192 ≤ length l
+long l h = omega arith

@@ -1,0 +1,9 @@
+pub mod States
+pub mod TwoTests
+pub mod Left
+pub mod Reading
+pub mod Freeing
+pub mod Closing
+pub mod Mallocking
+pub mod Opening
+pub mod Once

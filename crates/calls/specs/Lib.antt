@@ -1,0 +1,3 @@
+pub mod Replies
+pub mod Leaving
+pub mod Refusing

@@ -1,0 +1,22 @@
+-- What is tested once a call is admitted, in the page's order.
+use mathlib.Core.Bool.{Bool, cond, _||_, not}
+use Prim.Native.Nat.{ℕ, _%_}
+use lib.Dec.{ltb, leb, eqb}
+use Rattle.tables.specs.Open.{badConfiguration}
+use Rattle.tables.specs.declared.Outcome.{Outcome}
+use Rattle.tables.specs.declared.Outcome.the-variants.{BadSize, SpansFull, ShortLog, BadConfiguration}
+use Rattle.driving.specs.declared.Ended.{Ended}
+use Rattle.driving.specs.declared.Ended.the-variants.{On, Ends}
+
+-- Two tests in order, each with what it ends the call with.
+abbrev pub firstOf : Bool → Outcome → Bool → Outcome → Ended
+firstOf a x b y = cond a (Ends x) (cond b (Ends y) On)
+
+-- 4, then 19.
+abbrev pub openRefused : ℕ → ℕ → ℕ → ℕ → ℕ → Ended
+openRefused granularity override va initial room =
+    firstOf (ltb room 2048) ShortLog (badConfiguration granularity override va initial) BadConfiguration
+
+-- 6, then 7.
+abbrev pub sizeRefused : ℕ → ℕ → ℕ → Ended
+sizeRefused page spans n = firstOf (eqb n 0 || not (eqb (n % page) 0)) (BadSize n) (leb 128 spans) SpansFull

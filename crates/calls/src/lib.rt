@@ -1,0 +1,131 @@
+// The pool: open, malloc, free, close. Each takes the pool by value and returns it with the outcome, the record count and the answers taken, for every pool
+// value, every argument, every list of answers and every log.
+mod leaving;
+mod refusing;
+
+ghost use Rattle.calls.specs.Replies.{Opens, Mallocs, Frees, Closes};
+use closing::close_steps;
+use driving::Ended;
+use entries::buffers::find_buffer;
+use free_steps::free_steps;
+use malloc_steps::malloc_steps;
+use open_steps::closed_pool;
+use open_steps::open_steps;
+use pools::enter;
+use pools::enter_close;
+use pools::in_order;
+use tables::Choice;
+use tables::Outcome;
+use words::Address;
+
+#[repr(C)]
+pub struct Pool {
+    pub value: tables::Pool,
+}
+
+// `records` were written to the log, `taken` answers were taken.
+#[repr(C)]
+pub struct Called {
+    pub pool: Pool,
+    pub outcome: Outcome,
+    pub records: usize,
+    pub taken: usize,
+}
+
+impl Pool {
+    // The ceilings: active pages; free regions and live buffers together; zombies; holes and zombies together; roots.
+    pub const PAGES: usize = 256;
+
+    pub const SPANS: usize = 128;
+
+    pub const ZOMBIES: usize = 128;
+
+    pub const HOLES: usize = 512;
+
+    pub const ROOTS: usize = 16;
+
+    // Records that a log must have room for.
+    pub const LOG: usize = 2048;
+
+    // Reserves one root and makes the initial pages; `override_size` 0 stands for the granularity.
+    pub fn open(
+        granularity: u64,
+        override_size: u64,
+        va_size: u64,
+        initial_pages: u64,
+        initial_stream: u64,
+        answers: &[u64],
+        log: &mut [u64],
+    ) -> Called
+        ensures { λ r. ⌜ Opens granularity «override_size» «va_size» «initial_pages» «initial_stream» (now (answers .entry)) (now (log .entry)) r (now (log .exit)) ⌝ }
+    {
+        let refused = refusing::open_refused(
+            granularity,
+            override_size,
+            va_size,
+            initial_pages,
+            log.len() / 4,
+        );
+        let Ended::On = refused else {
+            let value = closed_pool();
+            return leaving::refuse(Pool { value }, refused);
+        };
+        let page = refusing::page_size(granularity, override_size);
+        let stepped = open_steps(page, va_size, initial_pages, initial_stream, answers, log);
+        leaving::leave_opened(stepped)
+    }
+
+    // Cleanup, fit, otherwise room is made, and the prefix handed over.
+    pub fn malloc(self, bytes: u64, stream: u64, answers: &[u64], log: &mut [u64]) -> Called
+        ensures { λ r. ⌜ Mallocs self bytes stream (now (answers .entry)) (now (log .entry)) r (now (log .exit)) ⌝ }
+    {
+        let p = self.value;
+        let admission = enter(p, log.len() / 4);
+        let Ended::On = admission else {
+            return leaving::refuse(self, admission);
+        };
+        let sized = refusing::size_refused(p.page, p.free.count + p.live.count, bytes);
+        let Ended::On = sized else {
+            return leaving::refuse(self, sized);
+        };
+        let read = in_order(p);
+        let stepped = malloc_steps(read, bytes, stream, answers, log);
+        leaving::leave(self, stepped)
+    }
+
+    // The buffer's range is inserted as free, on its stream.
+    pub fn free(self, address: Address, answers: &[u64], log: &mut [u64]) -> Called
+        ensures { λ r. ⌜ Frees self address (now (answers .entry)) (now (log .entry)) r (now (log .exit)) ⌝ }
+    {
+        let p = self.value;
+        let admission = enter(p, log.len() / 4);
+        let Ended::On = admission else {
+            return leaving::refuse(self, admission);
+        };
+        let read = in_order(p);
+        let choice = find_buffer(read.live, address);
+        let Choice::At(at) = choice else {
+            return leaving::refuse(self, Ended::Ends(Outcome::InvalidPointer(address)));
+        };
+        let stepped = free_steps(read, at, answers, log);
+        leaving::leave(self, stepped)
+    }
+
+    // Sync, unmap zombies, unmap and release pages, give back roots: a failing line doesn't end a close.
+    pub fn close(self, answers: &[u64], log: &mut [u64]) -> Called
+        ensures { λ r. ⌜ Closes self (now (answers .entry)) (now (log .entry)) r (now (log .exit)) ⌝ }
+    {
+        let p = self.value;
+        let admission = enter_close(p, log.len() / 4);
+        let Ended::On = admission else {
+            return leaving::refuse(self, admission);
+        };
+        let read = in_order(p);
+        let closing = close_steps(read, answers, log);
+        let ended = closing.ended;
+        let Ended::On = ended else {
+            return leaving::leave_short(self, closing.made);
+        };
+        leaving::leave_closed(closing.failed, closing.made)
+    }
+}

@@ -1,0 +1,82 @@
+// Tests of numbers.
+ghost use mathlib.Core.Path.{_≡_};
+ghost use mathlib.Core.Bool.{true, not};
+ghost use Prim.Native.Nat.{_<_, min, max};
+ghost use lib.Dec.{eqb};
+ghost use Rattle.lists.specs.Tests.{every, distinct};
+ghost use Rattle.tables.specs.WellFormed.{whole};
+
+// A nonzero multiple of the page size.
+pub fn is_whole(page: u64, n: u64) -> bool
+    requires { ⌜ 0 < page ⌝ }
+    ensures { λ r. ⌜ r ≡ whole page n ⌝ }
+{
+    if n == 0 {
+        return false;
+    }
+    n % page == 0
+}
+
+pub fn lower_of(a: u64, b: u64) -> u64
+    ensures { λ r. ⌜ r ≡ min a b ⌝ }
+{
+    if a < b { a } else { b }
+}
+
+pub fn higher_of(a: u64, b: u64) -> u64
+    ensures { λ r. ⌜ r ≡ max a b ⌝ }
+{
+    if a < b { b } else { a }
+}
+
+// No number of the rest is `x`.
+fn differs(x: u64, rest: &[u64]) -> bool
+    ensures { λ r. ⌜ r ≡ every (λ y. not (eqb x y)) (now (rest .entry)) ⌝ }
+{
+    let mut i = 0;
+    while i < rest.len() {
+        if rest[i] == x {
+            return false;
+        }
+        i += 1;
+    }
+    true
+}
+
+// Each number is above the one before, so that no two are the same.
+fn is_rising(numbers: &[u64]) -> bool
+    ensures { λ r. ⌜ (r ≡ true → distinct (now (numbers .entry)) ≡ true) ⌝ }
+{
+    let mut least: u64 = 0;
+    let mut i = 0;
+    while i < numbers.len() {
+        let x = numbers[i];
+        if x < least {
+            return false;
+        }
+        if 0xffff_ffff_ffff_ffff <= x {
+            return false;
+        }
+        least = x + 1;
+        i += 1;
+    }
+    true
+}
+
+// No number twice. Numbers that rise are looked at once, others in pairs.
+pub fn is_distinct(numbers: &[u64]) -> bool
+    ensures { λ r. ⌜ r ≡ distinct (now (numbers .entry)) ⌝ }
+{
+    if is_rising(numbers) {
+        return true;
+    }
+    let mut i = 0;
+    while i < numbers.len() {
+        let next = i + 1;
+        if !differs(numbers[i], &numbers[next..]) {
+            return false;
+        }
+        i = next;
+    }
+    true
+}

@@ -1,0 +1,2 @@
+pub mod Sounds
+pub mod Ways

@@ -1,0 +1,6 @@
+// Reads a trace on standard input and prints the judge's verdict on it, one line on standard output.
+use libc::STDIN_FILENO;
+
+fn main() {
+    judge_pump::pump(STDIN_FILENO);
+}

@@ -1,0 +1,26 @@
+// Judges each trace that an argument names, and prints its verdict. Beside recorded sessions, data/ holds `whole`, a small trace that is accepted; the same with
+// one line changed or left out, under the name of the rule that it breaks; and each table of the judge at its size and one beyond.
+fn one(i: usize) {
+    let mut path = io::buffer();
+    let n = os::arg(i, &mut path);
+    if os::errno() != 0 {
+        os::fail(b"path");
+        return;
+    }
+    let fd = os::open_read(&path[..n]);
+    if fd < 0 {
+        os::fail(&path[..n]);
+        return;
+    }
+    judge_pump::pump(fd);
+    libc::close(fd);
+}
+
+fn main() {
+    let n = os::arg_count();
+    let mut i: usize = 1;
+    while i < n {
+        one(i);
+        i += 1;
+    }
+}

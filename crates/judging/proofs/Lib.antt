@@ -1,0 +1,5 @@
+pub mod Sessions
+pub mod Laws
+pub mod Keeps
+pub mod Accepted
+pub mod Few

@@ -1,0 +1,3 @@
+pub mod Handing
+pub mod Rooms
+pub mod Ways

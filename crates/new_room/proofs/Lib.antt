@@ -1,0 +1,4 @@
+pub mod Ways
+pub mod Sounds
+pub mod Taking
+pub mod Inserting

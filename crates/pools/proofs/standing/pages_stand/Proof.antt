@@ -1,0 +1,129 @@
+-- `pools::standing::pages_stand` meets its contract. The invariants: all ascend if those that are left do; all past the count are zero if those that are
+-- left are. Assumes nothing.
+use mathlib.Core.Path.{_≡_, sym, _∙_}
+use mathlib.Core.Bool.{true, false≢true}
+use Prim.Native.Nat.{_-_, _≤_}
+use native.Mathlib.Omega.{arith}
+use borrow.Author.Needs.{needs}
+use borrow.Author.Tests.{not-false}
+use lib.ListN.{length, drop, replicate}
+use Rattle.lists.specs.InOrder.{ascends}
+use Rattle.lists.proofs.Tests.{length-mapped}
+use Rattle.lists.proofs.InOrder.{ascends-sorted}
+use Rattle.tables.specs.Values.{page, pagesOf}
+use Rattle.pools.proofs.Looking.{ascends-turn, ascends-end, zeros-turn, zeros-end, zeros-filled}
+use Rattle.pools.proofs.standing.pages_stand.Statement.{statement}
+use Rattle.pools.proofs.standing.pages_stand.Tie as tie
+
+abbrev Inv-loop : tie.InvT-loop
+Inv-loop t count least₀ i₀ least i =
+    ((i ≤ count) × (count ≡ t .count)) ×
+    ((length (t .cells) ≡ 256) × (ascends (λ g. g .start .0) least (drop i (pagesOf t)) ≡ true → ascends (λ g. g .start .0) 0 (pagesOf t) ≡ true))
+
+abbrev μ-loop : tie.MeasureT-loop
+μ-loop t count least₀ i₀ least i = count - i
+
+abbrev Inv-loop2 : tie.InvT-loop2
+Inv-loop2 t count least i₀ i =
+    ((i ≤ 256) × (length (t .cells) ≡ 256)) ×
+    ((ascends (λ g. g .start .0) 0 (pagesOf t) ≡ true) × (drop i (t .cells) ≡ replicate (256 - i) (page 0 0) → drop (t .count) (t .cells) ≡ replicate (256 - t .count) (page 0 0)))
+
+abbrev μ-loop2 : tie.MeasureT-loop2
+μ-loop2 t count least i₀ i = 256 - i
+
+loop-holds : tie.Need-loop-holds Inv-loop μ-loop Inv-loop2 μ-loop2
+loop-holds c = ((search needs, search needs), (search (needs, length-mapped), λ e. e))
+
+mul-g : tie.Need-mul-g Inv-loop μ-loop Inv-loop2 μ-loop2
+mul-g c = search needs
+
+element-copy-out-g : tie.Need-element-copy-out-g Inv-loop μ-loop Inv-loop2 μ-loop2
+element-copy-out-g c = search needs
+
+returns : tie.Need-returns Inv-loop μ-loop Inv-loop2 μ-loop2
+returns c = λ e. absurd (false≢true e)
+
+add-i : tie.Need-add-i Inv-loop μ-loop Inv-loop2 μ-loop2
+add-i c = search needs
+
+loop-less : tie.Need-loop-less Inv-loop μ-loop Inv-loop2 μ-loop2
+loop-less c = search needs
+
+loop-again : tie.Need-loop-again Inv-loop μ-loop Inv-loop2 μ-loop2
+unfolding pagesOf
+loop-again c =
+    let v = c .before .before .before .before in
+    let t = v .before .args .t1 in
+    let l = v .loop in
+    ((search needs, search needs), (search needs, λ e. l .inv .1 .1 (ascends-turn (λ g. g .start .0) (t .count) (t .cells) (l .i) (l .least) (page 0 0) (omega arith) (omega arith) (c .if1 .left) e)))
+
+loop2-holds : tie.Need-loop2-holds Inv-loop μ-loop Inv-loop2 μ-loop2
+unfolding pagesOf
+loop2-holds c =
+    let v = c .before in
+    let t = v .before .args .t1 in
+    let l = v .loop in
+    let n : l .i ≡ t .count = omega arith in
+    ((search needs, search needs), (l .inv .1 .1 (ascends-end (λ g. g .start .0) (t .count) (t .cells) (l .i) (l .least) (omega arith)), rw n (λ e. e)))
+
+mul-rest : tie.Need-mul-rest Inv-loop μ-loop Inv-loop2 μ-loop2
+mul-rest c = search needs
+
+element-copy-out-rest : tie.Need-element-copy-out-rest Inv-loop μ-loop Inv-loop2 μ-loop2
+element-copy-out-rest c = search needs
+
+is-no-page-requires : tie.Need-is-no-page-requires Inv-loop μ-loop Inv-loop2 μ-loop2
+is-no-page-requires c κs = search needs
+
+returns-2 : tie.Need-returns-2 Inv-loop μ-loop Inv-loop2 μ-loop2
+returns-2 c = λ e. absurd (false≢true e)
+
+add-i-2 : tie.Need-add-i-2 Inv-loop μ-loop Inv-loop2 μ-loop2
+add-i-2 c = search needs
+
+loop2-less : tie.Need-loop2-less Inv-loop μ-loop Inv-loop2 μ-loop2
+loop2-less c = search needs
+
+loop2-again : tie.Need-loop2-again Inv-loop μ-loop Inv-loop2 μ-loop2
+loop2-again c =
+    let a = c .before in
+    let v = a .before .before .before in
+    let t = v .before .before .before .args .t1 in
+    let l = v .loop2 in
+    ((search needs, search needs), (l .inv .1 .0, λ e. l .inv .1 .1 (zeros-turn (page 0 0) 256 (t .cells) (omega arith) (l .i) (omega arith) (a .is-no-page .ensures (not-false _ (c .if2 .left))) e)))
+
+returns-3 : tie.Need-returns-3 Inv-loop μ-loop Inv-loop2 μ-loop2
+returns-3 c =
+    let v = c .before in
+    let s = v .before .before .before in
+    let t = s .args .t1 in
+    let l = v .loop2 in
+    λ e. (
+      zeros-filled (page 0 0) 256 (t .cells) (omega arith) (t .count) (omega arith) (l .inv .1 .1 (zeros-end (page 0 0) 256 (t .cells) (omega arith) (l .i) (omega arith))),
+      ascends-sorted (λ g. g .start .0) 0 (pagesOf t) (l .inv .1 .0),
+    )
+
+pub pages-stand-spec : {M : Type 1} → statement M
+pages-stand-spec =
+    tie.close
+    (tie.spec
+    Inv-loop
+    μ-loop
+    Inv-loop2
+    μ-loop2
+    loop-holds
+    mul-g
+    element-copy-out-g
+    returns
+    add-i
+    loop-less
+    loop-again
+    loop2-holds
+    mul-rest
+    element-copy-out-rest
+    is-no-page-requires
+    returns-2
+    add-i-2
+    loop2-less
+    loop2-again
+    returns-3)

@@ -1,0 +1,27 @@
+-- What the code that pulls regions into the range needs.
+use mathlib.Core.List.{List}
+use Prim.Native.Nat.{ℕ, _+_, _<_, _^_}
+use Rattle.tables.specs.Values.{tablesOf, freeOf}
+use Rattle.tables.specs.Kept.{KeptPool}
+use Rattle.tables.specs.declared.FreeRegion.{FreeRegion}
+use Rattle.tables.specs.declared.Pool.{Pool}
+use Rattle.keeping.specs.Sound.{none, WholeRange}
+use Rattle.keeping.proofs.Pull.{Pulling}
+use Rattle.keeping.proofs.PullIn.{filling, order, Spare}
+use Rattle.regions.specs.Pulling.{besides}
+use Rattle.regions.specs.declared.Made.{Made}
+use Rattle.new_pages.specs.Promises.{roomOf}
+use Rattle.new_pages.specs.declared.Room.{Room}
+
+-- The range of `lacks` bytes after the new pages is in hand, the regions besides the one just made can be pulled up to that, and a span is to spare.
+pub record Fillable (o : Room) (newly : Made) (lacks : ℕ) (p : Pool) : Type 0 where
+  pub kept : KeptPool p
+  pub ids : p .counter < 2 ^ 63
+  pub lost : ℕ → ℕ
+  pub rest : ℕ → ℕ
+  pub spans : ℕ
+  pub keep : List FreeRegion
+  pub range : WholeRange (p .page) (o .start .0 + o .missing) lacks
+  pub spare : Spare lost rest (p .page) lacks spans keep (besides newly (freeOf (p .free))) (roomOf o)
+  pub due : Pulling lost (filling lost rest (p .page) lacks spans keep (besides newly (freeOf (p .free))) (roomOf o)) none (p .page) lacks spans keep
+      (order lost rest (p .page) lacks spans keep (besides newly (freeOf (p .free))) (roomOf o)) (tablesOf p)

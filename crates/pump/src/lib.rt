@@ -1,0 +1,158 @@
+// Reads a trace from a file, chunk by chunk, and prints on standard output what replay prints for it. It holds one chunk of the input, the answers of one call
+// and its log at a time, whatever the length of the input.
+ghost use mathlib.Core.Path.{_≡_};
+ghost use mathlib.Core.Bool.{true};
+ghost use Prim.Native.Nat.{_+_, _≤_, _<_, _^_};
+ghost use lib.ListN.{length};
+ghost use Rattle.pump.specs.Buffers.{Buffers, Goes};
+use calls::Pool;
+use libc::STDERR_FILENO;
+use libc::STDOUT_FILENO;
+use replaying::last;
+use replaying::turn;
+use waiting::Place;
+
+// Where the run stands after a chunk, and whether it goes on; `count` bytes were read.
+struct State {
+    pool: Pool,
+    place: Place,
+    count: usize,
+    live: bool,
+}
+
+fn not_written() {
+    io::write_all(
+        STDERR_FILENO,
+        b"replay: standard output cannot be written\n",
+    );
+}
+
+fn not_read() {
+    io::write_all(STDERR_FILENO, b"replay: standard input cannot be read\n");
+}
+
+// Prints what a chunk of the input comes to.
+fn drain(
+    chunk: &[u8],
+    pool: Pool,
+    s: Place,
+    answers: &mut [u64],
+    log: &mut [u64],
+    out: &mut [u8],
+) -> State
+    requires { ⌜ Goes s × ((s .line + length (now chunk) < 2 ^ 64) × Buffers (now answers) (now log) (now out)) ⌝ }
+    ensures { λ r. ⌜ Goes (r .place) × ((r .place .line ≤ s .line + length (now (chunk .entry))) × (r .count ≡ length (now (chunk .entry)))) ⌝ }
+{
+    let mut p = pool;
+    let mut t = s;
+    let mut at: usize = 0;
+    while at < chunk.len() {
+        let r = turn(p, t, chunk, at, answers, log, out);
+        let left = r.pool;
+        let place = r.place;
+        let filled = r.filled;
+        p = left;
+        t = place;
+        at = r.at;
+        if !io::write_all(STDOUT_FILENO, &out[..filled]) {
+            not_written();
+            return State {
+                pool: p,
+                place: t,
+                count: chunk.len(),
+                live: false,
+            };
+        }
+    }
+    State {
+        pool: p,
+        place: t,
+        count: chunk.len(),
+        live: !t.over,
+    }
+}
+
+// The end of the input. A last line that lacks its line feed counts: one is read behind it.
+fn finish(pool: Pool, s: Place, answers: &mut [u64], log: &mut [u64], out: &mut [u8])
+    requires { ⌜ Goes s × ((s .line + 1 < 2 ^ 64) × Buffers (now answers) (now log) (now out)) ⌝ }
+{
+    if s.is_ended() {
+        return end(pool, s, answers, log, out);
+    }
+    let fed = drain(b"\n", pool, s, answers, log, out);
+    let left = fed.pool;
+    let place = fed.place;
+    if !fed.live {
+        return;
+    }
+    end(left, place, answers, log, out);
+}
+
+// The call that waits is run.
+fn end(pool: Pool, s: Place, answers: &[u64], log: &mut [u64], out: &mut [u8])
+    requires { ⌜ Goes s × Buffers (now answers) (now log) (now out) ⌝ }
+{
+    let r = last(pool, s, answers, log, out);
+    let filled = r.filled;
+    if !io::write_all(STDOUT_FILENO, &out[..filled]) {
+        not_written();
+    }
+}
+
+// Reads once and prints what came; at the end of the input, what is left.
+fn serve(
+    fd: i32,
+    pool: Pool,
+    s: Place,
+    answers: &mut [u64],
+    log: &mut [u64],
+    out: &mut [u8],
+) -> State
+    requires { ⌜ Goes s × ((s .line + 65536 < 2 ^ 64) × Buffers (now answers) (now log) (now out)) ⌝ }
+    ensures { λ r. ⌜ Goes (r .place) × ((r .place .line ≤ s .line + r .count) × (r .count ≤ 65536)) ⌝ }
+    ensures { λ r. ⌜ (r .live ≡ true → 0 < r .count) ⌝ }
+{
+    let mut buf = io::large_buffer();
+    let got = libc::read(fd, &mut buf);
+    if got < 0 {
+        not_read();
+        return State {
+            pool,
+            place: s,
+            count: 0,
+            live: false,
+        };
+    }
+    let n = io::count(got, &buf);
+    if n == 0 {
+        finish(pool, s, answers, log, out);
+        return State {
+            pool,
+            place: s,
+            count: 0,
+            live: false,
+        };
+    }
+    drain(&buf[..n], pool, s, answers, log, out)
+}
+
+// From an open file to standard output.
+pub fn pump(fd: i32) {
+    let mut answers: [u64; 4096] = [0; 4096];
+    let mut log: [u64; 8192] = [0; 8192];
+    let mut out: [u8; 147600] = [0; 147600];
+    let mut pool = replaying::closed();
+    let mut s = Place::first();
+    let mut total: u64 = 0;
+    while total < 0x8000_0000_0000_0000 {
+        let r = serve(fd, pool, s, &mut answers, &mut log, &mut out);
+        if !r.live {
+            return;
+        }
+        let left = r.pool;
+        let place = r.place;
+        pool = left;
+        s = place;
+        total += r.count as u64;
+    }
+}

@@ -1,0 +1,1 @@
+// Theorems only: what replay prints, as a definition, and its laws.

@@ -1,0 +1,14 @@
+pub mod Cases
+pub mod Counted
+pub mod Decimal
+pub mod Put
+pub mod Words
+pub mod Printed
+pub mod Meaning
+pub mod Numbers
+pub mod Fields
+pub mod Theorems
+pub mod Feeds
+pub mod Chunks
+pub mod Scanned
+pub mod Examples

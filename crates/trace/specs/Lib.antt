@@ -1,0 +1,7 @@
+pub mod Form
+pub mod Kinds
+pub mod Reads
+pub mod Lines
+pub mod Machine
+pub mod Chunks
+pub mod Put
