@@ -1,3 +1,4 @@
 pub mod Readings
 pub mod Ends
 pub mod Chunks
+pub mod Starts

@@ -2,7 +2,7 @@
 use mathlib.Core.Path.{_≡_, refl, ap, _∙_}
 use lib.ListN.{length}
 use Rattle.judge_chunks.specs.declared.Progress.{Progress}
-use Rattle.judge_pump.proofs.Starts.{begun-start}
+use Rattle.judge_chunks.proofs.Starts.{begun-start}
 use borrow.Author.Needs.{needs}
 use native.Mathlib.Omega.{arith}
 use Prim.Native.Nat.{_-_, _≤_}
