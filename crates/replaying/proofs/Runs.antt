@@ -40,12 +40,12 @@ module _ (show : tables.Pool → List ℕ) where
         → Run input (out ++ printedBy r buffer) (drop (r .at) chunk) (r .pool) (r .place) cells′
 
   -- what is printed, and what is still to be printed, is what replay prints for the whole
-  record Sofar (input out left : List ℕ) (p : Pool) (s : Place) (cells : List ℕ) : Type 0 where
-    answers : List ℕ
-    keeps : Keeps cells (s .count) answers
-    same : (more : List ℕ) → out ++ todo show (p .value) s answers (left ++ more) ≡ replayedShowing show (input ++ more)
+  pub record Sofar (input out left : List ℕ) (p : Pool) (s : Place) (cells : List ℕ) : Type 0 where
+    pub answers : List ℕ
+    pub keeps : Keeps cells (s .count) answers
+    pub same : (more : List ℕ) → out ++ todo show (p .value) s answers (left ++ more) ≡ replayedShowing show (input ++ more)
 
-  so-far : {input out left : List ℕ} {p : Pool} {s : Place} {cells : List ℕ} → Run input out left p s cells → Sofar input out left p s cells
+  pub so-far : {input out left : List ℕ} {p : Pool} {s : Place} {cells : List ℕ} → Run input out left p s cells → Sofar input out left p s cells
   unfolding todo replayedShowing
   so-far (start cells e) =
       record {
@@ -68,12 +68,17 @@ module _ (show : tables.Pool → List ℕ) where
             ∙ f .same more;
       }
 
+  -- the same where nothing follows
+  pub run-todo : {input out left : List ℕ} {p : Pool} {s : Place} {cells : List ℕ} (r : Run input out left p s cells)
+      → out ++ todo show (p .value) s (so-far r .answers) left ≡ replayedShowing show input
+  run-todo r = simp append-nil at (so-far r .same [])
+
   -- the end of an input whose last line has its line feed
   pub run-prints : {input out : List ℕ} {p : Pool} {s : Place} {cells buffer : List ℕ} {r : Ran} → Run input out [] p s cells → isEnded s ≡ true
       → Lasts p s cells buffer r → out ++ printedLast r buffer ≡ replayedShowing show input
   run-prints {input} {out} run e w =
       let f = so-far run in
-      ap (λ (x : List ℕ). out ++ x) (w .same (f .answers) (f .keeps) e show) ∙ f .same [] ∙ ap (replayedShowing show) (append-nil input)
+      ap (λ (x : List ℕ). out ++ x) (w .same (f .answers) (f .keeps) e show) ∙ run-todo run
 
   -- a line that lacks its line feed says what it says with it
   feed-todo : (p : tables.Pool) (s : Place) (xs : List ℕ) → isEnded s ≡ false → todo show p s xs (10 ∷ []) ≡ todo show p s xs []
@@ -82,18 +87,23 @@ module _ (show : tables.Pool → List ℕ) where
       let n = neither (s .over) (isFresh (s .partial)) e in
       rw (n .1)
 
+  -- the turn that reads the line feed which the last line lacks
+  pub fed-todo : {p : Pool} {s : Place} {cells cells′ buffer : List ℕ} {t : Step} (w : Turned p s (10 ∷ []) 0 cells cells′ buffer t) → isEnded s ≡ false
+      → (xs : List ℕ) (k : Keeps cells (s .count) xs)
+      → printedBy t buffer ++ todo show (t .pool .value) (t .place) (w .turns xs k .answers) [] ≡ todo show (p .value) s xs []
+  fed-todo {p} {s} {cells} {cells′} {buffer} {t} w e xs k =
+      let g = w .turns xs k in
+      let feed : List ℕ = 10 ∷ [] in
+      let all : drop (t .at) feed ++ [] ≡ [] = append-nil (drop (t .at) feed) ∙ drop-of-length-le feed {i = t .at} (w .moved) in
+      append-assoc (take (t .filled) buffer) (cond (t .shown) (show (t .pool .value)) []) _ ∙ rw all at (g .same show []) ∙ feed-todo (p .value) s xs e
+
   -- the end of an input whose last line lacks it: one is put behind it
   pub run-fed-prints : {input out : List ℕ} {p : Pool} {s : Place} {cells cells′ buffer buffer′ : List ℕ} {t : Step} {r : Ran} → Run input out [] p s cells → isEnded s ≡ false
       → Turned p s (10 ∷ []) 0 cells cells′ buffer t → Lasts (t .pool) (t .place) cells′ buffer′ r
       → out ++ (printedBy t buffer ++ printedLast r buffer′) ≡ replayedShowing show input
-  run-fed-prints {input} {out} {p} {s} {cells} {cells′} {buffer} {buffer′} {t} {r} run e w l =
+  run-fed-prints {out = out} {buffer = buffer} {t = t} run e w l =
       let f = so-far run in
       let g = w .turns (f .answers) (f .keeps) in
-      let feed : List ℕ = 10 ∷ [] in
-      let all : drop (t .at) feed ++ [] ≡ [] = append-nil (drop (t .at) feed) ∙ drop-of-length-le feed {i = t .at} (w .moved) in
-      let last : printedLast r buffer′ ≡ todo show (t .pool .value) (t .place) (g .answers) (drop (t .at) feed ++ []) =
-      l .same (g .answers) (g .keeps) (w .fed (record { front = []; is = refl })) show ∙ ap (todo show (t .pool .value) (t .place) (g .answers)) (sym all) in
-      ap (λ (x : List ℕ). out ++ (printedBy t buffer ++ x)) last
-      ∙ ap (λ (x : List ℕ). out ++ x) (append-assoc (take (t .filled) buffer) (cond (t .shown) (show (t .pool .value)) []) _ ∙ g .same show [] ∙ feed-todo (p .value) s (f .answers) e)
-      ∙ f .same []
-      ∙ ap (replayedShowing show) (append-nil input)
+      ap (λ (x : List ℕ). out ++ (printedBy t buffer ++ x)) (l .same (g .answers) (g .keeps) (w .fed (record { front = []; is = refl })) show)
+      ∙ ap (λ (x : List ℕ). out ++ x) (fed-todo w e (f .answers) (f .keeps))
+      ∙ run-todo run

@@ -1,0 +1,48 @@
+-- Every trace of the pool is accepted: the opening and each call lead the judge from one state that agrees with the pool to the next, and at the end no
+-- line is missing. So in every run no two live buffers share a page, and each keeps its pages. Assumes nothing.
+use mathlib.Core.Path.{_≡_, _∙_}
+use mathlib.Core.Bool.{true}
+use mathlib.Core.List.{List, [], _∷_, _++_, map}
+use Prim.Native.Nat.{ℕ, _+_}
+use lib.ListN.{take}
+use Rattle.tables.specs.Outcomes.{is}
+use Rattle.tables.specs.Open.{pageSize}
+use Rattle.trace.specs.Kinds.{openLine}
+use Rattle.trace.specs.declared.Line.{Line}
+use Rattle.trace.specs.declared.Reading.the-variants.{Good}
+use Rattle.judging.specs.Rules.{Judge}
+use Rattle.judging.specs.Verdict as Verdict
+use Rattle.judging.specs.Meaning.{SoundAfter, newestFirst}
+use Rattle.judging.specs.declared.Verdict.the-variants.{Accepted}
+use Rattle.judging.proofs.Keeps.{on-on}
+use Rattle.judging.proofs.Accepted.{accepted-means}
+use Rattle.agreement.specs.Runs.{Lent, Opening, opened, entry, traceFrom, traceOf}
+use Rattle.agreement.specs.Premises.{credible, Premises}
+use Rattle.agreement.specs.Judges.{read, Fair}
+use Rattle.agreement.proofs.Reading.{went-on, read-append, fair-first, fair-second, every-first}
+use Rattle.agreement.proofs.OpenCall.{open-read}
+use Rattle.agreement.proofs.Run.{Rests, run-read}
+
+-- lines that are read to a state between calls are accepted
+verdict-read : (n : ℕ) (s : Judge) (ls : List Line) (z : Judge) → read s ls ≡ Verdict.on z → Rests z → Verdict.verdictFrom n s (map Good ls) ≡ Accepted
+unfolding Verdict.atEnd
+verdict-read n s [] z e r = rw (on-on s z e, r .0, r .1)
+verdict-read n s (l ∷ ls) z e r =
+    let w = went-on (Verdict.step s (Good l)) (λ y. read y ls) z e in
+    rw (w .1 .0) (verdict-read (n + 1) (w .0) ls z (w .1 .1) r)
+
+pub accepted : (o : Opening) (cs : List Lent) → is 0 (opened o .outcome) ≡ true → Premises (traceOf o cs) → Verdict.verdict (map Good (traceOf o cs)) ≡ Accepted
+unfolding Verdict.verdict
+accepted o cs e h =
+    let l = openLine (pageSize (o .granularity) (o .override)) (o .va) (o .initial) in
+    let first = entry l (opened o) in
+    let rest = traceFrom (opened o .pool) cs in
+    let fair : Fair [] (first ++ rest) = record { driver = h .driver; mapped = h .mapped } in
+    let one = open-read o e (fair-first [] first rest fair) in
+    let two = run-read cs (opened o .pool) (one .state) (one .holds) (fair-second Verdict.start first rest (one .state) (one .reads) fair) (every-first credible first rest (h .credible) .1) in
+    verdict-read 0 Verdict.start (first ++ rest) (two .state) (read-append Verdict.start first rest (one .state) (one .reads) ∙ two .reads) (two .holds)
+
+-- No two live buffers ever share a page, and each keeps its pages: after every number of lines.
+pub buffers-apart : (o : Opening) (cs : List Lent) → is 0 (opened o .outcome) ≡ true → Premises (traceOf o cs) → (n : ℕ) →
+    SoundAfter (newestFirst [] (take n (map Good (traceOf o cs))))
+buffers-apart o cs e h n = accepted-means (map Good (traceOf o cs)) (accepted o cs e h) n

@@ -1,0 +1,110 @@
+-- Each call, from what stands before it to what stands after it: the judge accepts the call's line, its records and its result. Assumes nothing.
+use mathlib.Core.Path.{_≡_, refl, ap, sym, _∙_, subst}
+use mathlib.Core.Bool.{Bool, true, false, cond, _||_, not, false≢true}
+use mathlib.Core.List.{[], _∷_}
+use Prim.Native.Nat.{ℕ, _^_}
+use lib.Dec.{ltb, leb, eqb}
+use Rattle.lists.proofs.Tests.{neither}
+use Rattle.tables.specs.Values.{Tables, opened, closed, stopped, poolOf, atEntry}
+use Rattle.tables.specs.Outcomes.{numbers, is}
+use Rattle.tables.specs.Steps.{on}
+use Rattle.tables.specs.WellFormed.{wellFormed}
+use Rattle.tables.specs.HandsBack.{Reply, refused, poolAfter, admitted}
+use Rattle.tables.specs.declared.Pool.{Pool}
+use Rattle.tables.specs.declared.Outcome.{Outcome}
+use Rattle.tables.specs.declared.Outcome.the-variants.{PoolClosed, PoolStopped, NotWellFormed, ShortLog, IdsSpent}
+use Rattle.trace.specs.Kinds.{resultLine}
+use Rattle.keeping.specs.Sound.{Left}
+use Rattle.keeping.proofs.Kept.{left-by}
+use Rattle.keeping.proofs.WellFormedLeaves.{read-back, well-formed}
+use Rattle.judging.specs.Rules.{Judge}
+use Rattle.judging.specs.Verdict as Verdict
+use Rattle.judging.specs.declared.Run.{Run}
+use Rattle.printing.specs.Traced.{resultOf}
+use Rattle.agreement.specs.Runs as Runs
+use Rattle.agreement.specs.Runs.{lineOf, entry}
+use Rattle.agreement.specs.Agrees.{Inside, Ended}
+use Rattle.agreement.specs.Judges.{next, Reach, Fair, addresses, excused}
+use Rattle.agreement.proofs.Entries.{step-result}
+use Rattle.agreement.proofs.Standing.{
+  Stands,
+  Standing,
+  stands,
+  callOf,
+  calling,
+  step-call,
+  agrees-run,
+  inside-calling,
+  agrees-calling,
+  result-read,
+  refused-read,
+}
+
+-- What is to be shown of a call that answers `r`, where it enters a trace: not 17, and by premise not 15.
+abbrev pub Read : Runs.Call → Pool → Judge → Reply → Type 0
+Read c p s r = excused (r .outcome) ≡ false → Fair (addresses (s .mapped)) (entry (lineOf c) r) → Reach s (entry (lineOf c) r) (Standing (r .pool))
+
+module _ (p : Pool) (s : Judge) (h : Stands p s) where
+  pub state-open : p .state ≡ opened
+  unfolding poolOf
+  state-open = ap (λ (q : Pool). q .state) (h .pool)
+
+  pub formed : wellFormed p ≡ true
+  formed = ap wellFormed (h .pool) ∙ well-formed (h .lost) (h .tables) (h .kept)
+
+  pub entry-tables : atEntry p ≡ h .tables
+  entry-tables = ap atEntry (h .pool) ∙ read-back (h .lost) opened (h .tables) (h .kept .sound)
+
+  -- 4 and 5 leave an open pool as it is; 1, 2 and 3 don't occur
+  pub admitted-read : (c : Runs.Call) (log : ℕ) (r : Reply) → Read c p s r → Read c p s (admitted p log r)
+  unfolding admitted
+  admitted-read c log r f =
+      go (eqb (p .state) closed) (eqb (p .state) stopped) (not (wellFormed p)) (ltb log 2048) (leb (2 ^ 62) (p .counter))
+      (ap (λ x. eqb x closed) state-open) (ap (λ x. eqb x stopped) state-open) (ap not formed)
+    where
+      go : (a b d e g : Bool) → a ≡ false → b ≡ false → d ≡ false →
+          Read c p s (cond a (refused p PoolClosed) (cond b (refused p PoolStopped) (cond d (refused p NotWellFormed) (cond e (refused p ShortLog) (cond g (refused p IdsSpent) r)))))
+      go true b d e g x y z = absurd (false≢true (sym x))
+      go false true d e g x y z = absurd (false≢true (sym y))
+      go false false true e g x y z = absurd (false≢true (sym z))
+      go false false false true g x y z = λ _ _. refused-read c p s ShortLog refl h
+      go false false false false true x y z = λ _ _. refused-read c p s IdsSpent refl h
+      go false false false false false x y z = f
+
+-- A result with answer 0, of a judge that is inside the call `c`.
+module _ (c : Runs.Call) (s y : Judge) (same : y .run ≡ calling c s .run) (over : s .run .over ≡ false) where
+  call-is : y .run .asked .call ≡ callOf c
+  call-is = ap (λ (r : Run). r .asked .call) same
+
+  inside-here : Inside (y .run)
+  inside-here = subst Inside (sym same) (inside-calling c s over)
+
+  pub done-read : (a b : ℕ) (z : Judge) (R : Judge → Type 0) → Verdict.answered (callOf c) (Verdict.told y) a b ≡ Verdict.on z → R z → Reach y (resultLine a b 0 ∷ []) R
+  done-read a b z R e r =
+      record {
+        state = z;
+        reads =
+            ap (λ x. next x (λ v. Verdict.on v))
+            (step-result a b 0 y inside-here ∙ (ap (λ k. Verdict.answered k (Verdict.told y) a b) call-is ∙ e));
+        holds = r;
+      }
+
+-- An early end that is not excused: its number is not 0, and the pool is kept.
+pub ended-read : (c : Runs.Call) (p : Pool) (s y : Judge) (o : Outcome) (lost : ℕ → ℕ) (t : Tables) → s .run .over ≡ false → Left lost o t → Ended (calling c s .run) o t y → excused o ≡ false →
+    Reach y (resultOf (numbers o) ∷ []) (Standing (poolAfter p t o))
+ended-read c p s y o lost t over left e x =
+    let n = neither (is 0 o) (is 14 o) (e .0) in
+    let q = neither (is 15 o) (is 17 o) x in
+    let stopped-not : (is 14 o || is 15 o) ≡ false = rw (n .1, q .0) in
+    let after : poolAfter p t o ≡ poolOf opened t = rw (q .1, n .1, q .0) in
+    let run : y .run ≡ calling c s .run = e .1 .runs in
+    result-read o y (n .0) (inside-here c s y run over) (Standing (poolAfter p t o)) (stands (record {
+      tables = t;
+      lost = lost;
+      pool = after;
+      kept = left-by lost o t left .kept (q .1) stopped-not;
+      opens = ap (λ (r : Run). r .opened) run;
+      waiting = refl;
+      over = ap (λ (r : Run). r .over) run ∙ over;
+      agrees = agrees-run _ (ap (λ (r : Run). r .page) run) (ap (λ (r : Run). r .va) run) (e .1);
+    }))

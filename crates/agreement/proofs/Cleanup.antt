@@ -1,0 +1,172 @@
+-- Cleanup: a zombie's event was recorded, so it may be asked for; its pages are mapped and no live buffer lies over them, so they may be unmapped, and
+-- no other page goes with them. Assumes nothing.
+use mathlib.Core.Path.{_≡_, refl, ap, sym, _∙_, subst}
+use mathlib.Core.Logic.{inl, inr, ⊎-elim}
+use mathlib.Core.Bool.{true, false, cond, not}
+use mathlib.Core.List.{List, []}
+use Prim.Native.Nat.{ℕ, zero, suc, _+_, _-_, _≤_, _<_, _%_}
+use native.Mathlib.Omega.{arith}
+use borrow.Author.Tests.{le-leb, lt-leb, le-ltb}
+use lib.ListN.{length, getD}
+use Rattle.lists.specs.Tests.{Member, filter}
+use Rattle.lists.specs.Places.{swapOut}
+use Rattle.lists.proofs.Tests.{cases-lt, all-at, all-filter}
+use Rattle.lists.proofs.Members.{all-members, member-all, filter-member, sum-member}
+use Rattle.lists.proofs.Swap.{sum-swapOut, all-swapOut, length-swapOut}
+use Rattle.words.specs.declared.Word.the-variants.{Unmap}
+use Rattle.tables.specs.Values.{Tables, zombie, withZombies, withHoles}
+use Rattle.tables.specs.Steps.{_>>=_, _>>_}
+use Rattle.tables.specs.Driver.{isComplete, unmap}
+use Rattle.tables.specs.InsertHole.{insertHole}
+use Rattle.tables.specs.Cleanup.{clean, walk, cleanup}
+use Rattle.tables.specs.declared.Page as Pool
+use Rattle.tables.specs.declared.Zombie.{Zombie}
+use Rattle.tables.specs.declared.Outcome.{Outcome}
+use Rattle.keeping.specs.Cover.{within, equal, coverZombies, pagesAt}
+use Rattle.keeping.specs.Sound.{none, WholeRange, Sound, Kept, Left}
+use Rattle.keeping.specs.Counts.{Few, Known}
+use Rattle.keeping.proofs.Cover.{within-in, within-out, equal-same}
+use Rattle.keeping.proofs.Counting.{count-dropped, count-kept}
+use Rattle.keeping.proofs.Sounds.{sound-once, sound-zombies, sound-hole}
+use Rattle.keeping.proofs.Cleanup.{cleans-up}
+use Rattle.judging.specs.Ranges.{inside}
+use Rattle.judging.specs.Rules.{Page, Judge, R4}
+use Rattle.judging.specs.Verdict.{recorded, ruled, unmapped}
+use Rattle.judging.specs.declared.Run.{Run}
+use Rattle.judging.proofs.Laws.{is-inside}
+use Rattle.agreement.specs.Agrees.{mapping, mappedAt, Serving, Agreeing}
+use Rattle.agreement.specs.Judges.{Judges}
+use Rattle.agreement.proofs.Judges.{judges-from, judges-named, judges-and, judges-then, judges-give, judges-known, judges-change, judges-cond}
+use Rattle.agreement.proofs.Words.{Accepts, judges-try, judges-isComplete}
+use Rattle.agreement.proofs.Meets.{whole-mapped, none-live, agrees-inside, agrees-seen, agrees-asked}
+
+-- the test of an address against a range
+outside-false : (a n x : ℕ) → within a n x ≡ 0 → inside a n x ≡ false
+outside-false a n x e =
+    ⊎-elim
+    (λ (p : x < a). rw (lt-leb a x p))
+    (λ (p : a ≤ x).
+    ⊎-elim (λ (q : x < a + n). absurd (omega (arith, within-in a n x p q))) (λ (q : a + n ≤ x). rw (le-leb a x p, le-ltb x (a + n) q)) (cases-lt x (a + n)))
+    (cases-lt x a)
+
+-- Where a page is mapped once at most, and at each address of a range, unmapping the range takes away what the range covers.
+mapped-without : (a n : ℕ) (m : List Page) (x : ℕ) → mappedAt m x ≤ 1 → within a n x ≤ mappedAt m x →
+    mappedAt (filter (λ g. not (inside a n (g .at))) m) x + within a n x ≡ mappedAt m x
+mapped-without a n m x once le =
+    ⊎-elim
+    (λ (p : x < a). out (within-out a n x (inl p)))
+    (λ (p : a ≤ x). ⊎-elim (λ (q : x < a + n). into p q) (λ (q : a + n ≤ x). out (within-out a n x (inr q))) (cases-lt x (a + n)))
+    (cases-lt x a)
+  where
+    out : within a n x ≡ 0 → mappedAt (filter (λ g. not (inside a n (g .at))) m) x + within a n x ≡ mappedAt m x
+    out e = omega (arith, count-kept (λ (g : Page). g .at) (λ y. not (inside a n y)) x m (rw (outside-false a n x e)))
+
+    into : a ≤ x → x < a + n → mappedAt (filter (λ g. not (inside a n (g .at))) m) x + within a n x ≡ mappedAt m x
+    into p q =
+        omega (arith, within-in a n x p q, count-dropped (λ (g : Page). g .at) (λ y. not (inside a n y)) x m (rw (is-inside a n x p q)))
+
+module _ {run : Run} (serving : Serving run) (lost : ℕ → ℕ) where
+  -- One zombie, at place `i` of the tables `u`.
+  module _ (i : ℕ) (u : Tables) (w : Sound lost none none u) (v : Judge) (g : Agreeing run none [] u v) (h : i < length (u .zombies)) where
+    abbrev z : Zombie
+    z = getD (u .zombies) i (zombie 0 0 0)
+
+    abbrev a : ℕ
+    a = z .start .0
+
+    abbrev n : ℕ
+    n = z .size
+
+    abbrev left : Tables
+    left = withZombies (swapOut i (u .zombies)) u
+
+    zombies : (x : ℕ) → within a n x + coverZombies (swapOut i (u .zombies)) x ≡ coverZombies (u .zombies) x
+    zombies x = sum-swapOut (λ y. within (y .start .0) (y .size) x) (u .zombies) i (zombie 0 0 0) h
+
+    range : WholeRange (u .page) a n
+    range = all-at _ (u .zombies) i (zombie 0 0 0) (w .zombies) h
+
+    page : v .run .page ≡ u .page
+    page = ap (λ (r : Run). r .page) (g .runs) ∙ g .page
+
+    -- the tables once it is out: its range is in hand
+    out : Sound lost (within a n) none left
+    out =
+        sound-zombies w (swapOut i (u .zombies)) (all-swapOut _ (u .zombies) i (zombie 0 0 0) (w .zombies) h)
+        (λ x. omega (arith, zombies x)) (all-swapOut _ (u .zombies) i (zombie 0 0 0) (w .zombieIds) h)
+
+    -- its pages are mapped, and none is live
+    meets : R4 v a n ≡ true
+    unfolding R4
+    meets =
+        let whole = whole-mapped (u .page) a n (v .mapped) (w .page) range (λ x e p q. omega (arith, g .mapped x e, zombies x, within-in a n x p q)) in
+        let clear = none-live (u .page) a n (v .live) (u .live) (g .buffers) (range .size .positive) (w .live) (λ x. omega (arith, sound-once w x, zombies x)) in
+        rw (page, whole, clear)
+
+    -- an active page is no zombie's
+    active-stays : (q : Pool.Page) → Member q (u .pages) → Member (mapping q) (unmapped v a n .mapped)
+    active-stays q m =
+        let x = q .start .0 in
+        let e : x % u .page ≡ 0 = member-all _ q (u .pages) m (w .pages) .aligned in
+        let some : 1 ≤ pagesAt (u .pages) x = omega (arith, sum-member (λ (k : Pool.Page). equal (k .start .0) x) q (u .pages) m, equal-same x) in
+        let far : within a n x ≡ 0 = omega (arith, w .pagesMatch x e, sound-once w x, zombies x) in
+        filter-member (λ k. not (inside a n (k .at))) (mapping q) (v .mapped) (member-all _ q (u .pages) m (g .active)) (rw (outside-false a n x far))
+
+    agrees-unmapped : Agreeing run none [] (withHoles (insertHole a n (u .holes)) left) (unmapped v a n)
+    agrees-unmapped =
+        record {
+          runs = g .runs;
+          page = g .page;
+          va = g .va;
+          reservations = g .reservations;
+          held = g .held;
+          aligned = all-filter _ _ (v .mapped) (g .aligned);
+          mapped = λ x e. omega (arith, g .mapped x e, zombies x, mapped-without a n (v .mapped) x (omega (arith, g .mapped x e, sound-once w x)) (omega (arith, g .mapped x e, zombies x)));
+          active = all-members _ (u .pages) active-stays;
+          owned = all-filter _ _ (v .mapped) (g .owned);
+          buffers = g .buffers;
+          last = g .last;
+        }
+
+    sound-cleaned : Sound lost none none (withHoles (insertHole a n (u .holes)) left)
+    sound-cleaned = sound-hole out a n (λ x. omega arith) (λ _. range)
+
+    pub cleans : {E : Outcome → Tables → Judge → Type 0} →
+        Judges (λ t s. (t ≡ u) × (s ≡ v)) (clean i z) (λ _ t s. Sound lost none none t × (Agreeing run none [] t s × (length (t .zombies) ≡ length (u .zombies) - 1))) E
+    unfolding clean unmap recorded ruled
+    cleans =
+        judges-then (λ _ t s. (t ≡ left) × (s ≡ v)) (judges-change _ (λ t s q. (ap (λ x. withZombies (swapOut i (x .zombies)) x) (q .0), q .1))) (λ _.
+        judges-then (λ _ t s. (t ≡ left) × (s ≡ unmapped v a n))
+        (judges-try Unmap a n (λ _. refl) (λ t s q few. subst (λ s. Accepts Unmap a n s (λ y. (t ≡ left) × (y ≡ unmapped v a n))) (sym (q .1))
+        (record { inside = agrees-inside serving g; state = unmapped v a n; accepts = rw (agrees-seen serving g, meets); holds = (q .0, refl) }))) (λ _.
+        judges-change _ (λ t s q. rw (q .0, q .1) (sound-cleaned, (agrees-unmapped, length-swapOut i (u .zombies))))))
+
+  -- `n` zombies are still to be asked: those from place `i` on
+  walks : (n i : ℕ) {E : Outcome → Tables → Judge → Type 0} →
+      Judges (λ t s. Sound lost none none t × (Agreeing run none [] t s × (length (t .zombies) ≡ i + n))) (walk n i) (λ _. Agreeing run none []) E
+  walks zero i = judges-from (λ t s q. q .1 .0) (judges-give tt)
+  walks (suc n) i {E} = judges-named (λ u v q. judges-known u (λ x e. rw e (one u v (q .0) (q .1 .0) (q .1 .1) (walks n i) (walks n (i + 1)))))
+    where
+      one : (u : Tables) (v : Judge) → Sound lost none none u → Agreeing run none [] u v → length (u .zombies) ≡ i + suc n →
+          Judges (λ t s. Sound lost none none t × (Agreeing run none [] t s × (length (t .zombies) ≡ i + n))) (walk n i) (λ _. Agreeing run none []) E →
+          Judges (λ t s. Sound lost none none t × (Agreeing run none [] t s × (length (t .zombies) ≡ i + 1 + n))) (walk n (i + 1)) (λ _. Agreeing run none []) E →
+          Judges (λ t s. (t ≡ u) × (s ≡ v))
+          (isComplete (getD (u .zombies) i (zombie 0 0 0) .id .0) >>= λ c. cond c (clean i (getD (u .zombies) i (zombie 0 0 0)) >> walk n i) (walk n (i + 1))) (λ _. Agreeing run none []) E
+      one u v w g len stay next =
+          let z = getD (u .zombies) i (zombie 0 0 0) in
+          let known : z .id .0 < u .counter = all-at _ (u .zombies) i (zombie 0 0 0) (w .zombieIds) (omega arith) in
+          judges-then (λ _ t s. (t ≡ u) × (s ≡ v)) (judges-isComplete (z .id .0) (λ t s q. rw (q .1) (agrees-asked serving g (z .id .0) known))) (λ c.
+          judges-cond c
+          (λ _. judges-then _ (cleans i u w v g (omega arith)) (λ _. judges-from (λ t s q. (q .0, (q .1 .0, omega (arith, q .1 .1)))) stay))
+          (λ _. judges-from (λ t s q. rw (q .0, q .1) (w, (g, omega arith))) next))
+
+  walks-all : {E : Outcome → Tables → Judge → Type 0} → Judges (λ t s. Sound lost none none t × Agreeing run none [] t s) cleanup (λ _. Agreeing run none []) E
+  unfolding cleanup
+  walks-all =
+      judges-named (λ u v q.
+      judges-known u (λ x e. rw e (judges-from (λ t s k. rw (k .0, k .1) (q .0, (q .1, omega arith))) (walks (length (u .zombies)) 0))))
+
+  pub judges-cleanup : (p f c : ℕ) {E : Outcome → Tables → Judge → Type 0} →
+      Judges (λ t s. (Kept lost t × (Few 0 c t × Known p f t)) × Agreeing run none [] t s) cleanup
+      (λ _ t s. (Kept lost t × (Few 0 c t × Known p f t)) × Agreeing run none [] t s) (λ o t s. Left lost o t × E o t s)
+  judges-cleanup p f c = judges-and (cleans-up lost p f c) (judges-from (λ t s q. (q .0 .0 .sound, q .1)) walks-all)

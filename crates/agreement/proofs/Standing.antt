@@ -1,0 +1,130 @@
+-- What stands between calls, and the calls that change nothing: refusals, and every call of a pool that was closed. Assumes nothing.
+use mathlib.Core.Path.{_≡_, refl, _∙_}
+use mathlib.Core.Bool.{true, false}
+use mathlib.Core.List.{List, [], _∷_}
+use Prim.Native.Nat.{ℕ}
+use Rattle.tables.specs.Values.{Tables, opened, poolOf, closedPool}
+use Rattle.tables.specs.Outcomes.{numbers, is}
+use Rattle.tables.specs.HandsBack.{refused}
+use Rattle.tables.specs.declared.Pool.{Pool}
+use Rattle.tables.specs.declared.LiveBuffer.{LiveBuffer}
+use Rattle.tables.specs.declared.Outcome.{Outcome}
+use Rattle.tables.specs.declared.Outcome.the-variants.{PoolClosed}
+use Rattle.trace.specs.declared.Reading.the-variants.{Good}
+use Rattle.keeping.specs.Sound.{none, Kept}
+use Rattle.judging.specs.Rules.{Judge}
+use Rattle.judging.specs.Verdict as Verdict
+use Rattle.judging.specs.declared.Run.{Run}
+use Rattle.judging.specs.declared.Call.{Call}
+use Rattle.judging.specs.declared.Call.the-variants.{Malloc, Free, Close}
+use Rattle.printing.specs.Traced.{resultOf}
+use Rattle.agreement.specs.Runs as Runs
+use Rattle.agreement.specs.Runs.{mallocs, frees, closes, lineOf, entry}
+use Rattle.agreement.specs.Agrees.{Inside, Agrees, Agreeing}
+use Rattle.agreement.specs.Judges.{Reach}
+use Rattle.agreement.proofs.Entries.{step-malloc, step-free, step-close, step-result, step-over, reach-entry}
+
+-- An open pool: its tables are kept, and the judge agrees with them.
+pub record Stands (p : Pool) (s : Judge) : Type 0 where
+  pub tables : Tables
+  pub lost : ℕ → ℕ
+  pub pool : p ≡ poolOf opened tables
+  pub kept : Kept lost tables
+  pub opens : s .run .opened ≡ true
+  pub waiting : s .run .waiting ≡ false
+  pub over : s .run .over ≡ false
+  pub agrees : Agreeing (s .run) none [] tables s
+
+-- A pool that was closed with answer 0.
+pub record Over (p : Pool) (s : Judge) : Type 0 where
+  pub pool : p ≡ closedPool
+  pub opens : s .run .opened ≡ true
+  pub waiting : s .run .waiting ≡ false
+  pub over : s .run .over ≡ true
+
+pub data Standing (p : Pool) (s : Judge) : Type 0 where
+  stands : Stands p s → Standing p s
+  ended : Over p s → Standing p s
+
+-- the judge's call of a call, and the state after its line
+abbrev pub callOf : Runs.Call → Call
+callOf (mallocs n k) = Malloc
+callOf (frees a) = Free
+callOf closes = Close
+
+abbrev pub calling : Runs.Call → Judge → Judge
+calling c s = Verdict.called (callOf c) s (lineOf c)
+
+pub step-call : (c : Runs.Call) (s : Judge) → s .run .opened ≡ true → s .run .waiting ≡ false → Verdict.step s (Good (lineOf c)) ≡ Verdict.on (calling c s)
+step-call (mallocs n k) s o w = step-malloc n k s (o, w)
+step-call (frees a) s o w = step-free a s (o, w)
+step-call closes s o w = step-close s (o, w)
+
+-- the relation does not depend on where in a run the judge is, but for page size and va_size
+pub agrees-run : {run : Run} {new : ℕ → ℕ} {spare : List ℕ} {live : List LiveBuffer} {t : Tables} {s : Judge} (other : Run) → other .page ≡ run .page → other .va ≡ run .va →
+    Agrees run new spare live t s → Agrees other new spare live t (Verdict.withRun s other)
+agrees-run other p v g =
+    record {
+      runs = refl;
+      page = p ∙ g .page;
+      va = v ∙ g .va;
+      reservations = g .reservations;
+      held = g .held;
+      aligned = g .aligned;
+      mapped = g .mapped;
+      active = g .active;
+      owned = g .owned;
+      buffers = g .buffers;
+      last = g .last;
+    }
+
+pub inside-calling : (c : Runs.Call) (s : Judge) → s .run .over ≡ false → Inside (calling c s .run)
+inside-calling c s v = record { opened = refl; waiting = refl; over = v }
+
+pub agrees-calling : (c : Runs.Call) {new : ℕ → ℕ} {spare : List ℕ} {live : List LiveBuffer} {t : Tables} {s : Judge} → Agrees (s .run) new spare live t s →
+    Agrees (calling c s .run) new spare live t (calling c s)
+agrees-calling (mallocs n k) g = agrees-run _ refl refl g
+agrees-calling (frees a) g = agrees-run _ refl refl g
+agrees-calling closes g = agrees-run _ refl refl g
+
+-- a result that is not 0
+pub result-read : (o : Outcome) (s : Judge) → is 0 o ≡ false → Inside (s .run) → (R : Judge → Type 0) → R (Verdict.told s) → Reach s (resultOf (numbers o) ∷ []) R
+result-read o s e i R r =
+    record {
+      state = Verdict.told s;
+      reads = rw (step-result (numbers o .first) (numbers o .second) (numbers o .number) s i, e);
+      holds = r;
+    }
+
+-- A refusal.
+pub refused-read : (c : Runs.Call) (p : Pool) (s : Judge) (o : Outcome) → is 0 o ≡ false → Stands p s → Reach s (entry (lineOf c) (refused p o)) (Standing p)
+refused-read c p s o e h =
+    reach-entry s (calling c s) (lineOf c) (step-call c s (h .opens) (h .waiting)) [] (resultOf (numbers o)) (Standing p)
+    (record {
+      state = calling c s;
+      reads = refl;
+      holds = result-read o (calling c s) e (inside-calling c s (h .over)) (Standing p) (stands (record {
+        tables = h .tables;
+        lost = h .lost;
+        pool = h .pool;
+        kept = h .kept;
+        opens = refl;
+        waiting = refl;
+        over = h .over;
+        agrees = agrees-run _ refl refl (agrees-calling c (h .agrees));
+      }));
+    })
+
+-- A call of a closed pool.
+pub over-read : (c : Runs.Call) (p : Pool) (s : Judge) → Over p s → Reach s (entry (lineOf c) (refused p PoolClosed)) (Standing p)
+over-read c p s h =
+    reach-entry s (calling c s) (lineOf c) (step-call c s (h .opens) (h .waiting)) [] (resultOf (numbers PoolClosed)) (Standing p)
+    (record {
+      state = calling c s;
+      reads = refl;
+      holds = record {
+        state = Verdict.told (calling c s);
+        reads = rw (step-over (calling c s) refl refl (h .over));
+        holds = ended (record { pool = h .pool; opens = refl; waiting = refl; over = h .over });
+      };
+    })

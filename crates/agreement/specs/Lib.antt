@@ -1,0 +1,5 @@
+pub mod Runs
+pub mod Premises
+pub mod Agrees
+pub mod Judges
+pub mod Replays
