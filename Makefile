@@ -1,22 +1,23 @@
-.PHONY: run test compare bench
+.PHONY: run test compare bench finder
 
 run:
-	@command -v rt >/dev/null || { echo "make run needs rt, the command of the Rattle kit" >&2; exit 1; }
-	@mkdir -p target
-	@rt check replay judge >target/run.out 2>&1 || { cat target/run.out >&2; exit 1; }
-	@target/bin/replay <sessions/a-to-n.trace >target/a-to-n.trace
+	@bash scripts/runnable replay judge
+	@target/run/replay <sessions/a-to-n.trace >target/a-to-n.trace
 	@cat target/a-to-n.trace
-	@target/bin/judge <target/a-to-n.trace
+	@target/run/judge <target/a-to-n.trace
 
 test:
 	@bash .ci/run
 
 compare:
-	@command -v rt >/dev/null || { echo "make compare needs rt, the command of the Rattle kit" >&2; exit 1; }
-	@mkdir -p target
-	@rt check replay >target/compare.out 2>&1 || { cat target/compare.out >&2; exit 1; }
-	@bash compare/run target/bin/replay
-	@bash compare/scale $(SESSIONS) target/bin/replay
+	@bash scripts/runnable replay replay_tables
+	@bash compare/run target/run/replay target/run/replay_tables
+	@bash compare/scale $(SESSIONS) target/run/replay target/run/replay_tables
+	@rt staticlib finder >target/run/staticlib.out 2>&1 || { cat target/run/staticlib.out >&2; exit 1; }
+	@bash compare/lockstep $(SESSIONS)
 
 bench:
 	@bash bench/run
+
+finder:
+	@CC="$(CC)" RUN="$(RUN)" bash finder/run

@@ -44,13 +44,24 @@ same() {
     diff "$2" "$3" | head -n 4 || true
 }
 
-# replays PROGRAM TRACE: the program reads a trace and prints its own, which must be the same.
-replays() {
-    "$1" < "$2" > "$made/replayed" || {
+# prints PROGRAM TRACE WANTED: the program reads a trace and must print what WANTED has.
+prints() {
+    "$1" < "$2" > "$made/printed" || {
         differences=$((differences + 1))
         echo "$1 fails on $2"
     }
-    same "$1" "$2" "$made/replayed"
+    same "$1 on $2" "$3" "$made/printed"
+}
+
+# replays PROGRAM TRACE: what it prints is the trace itself.
+replays() {
+    prints "$1" "$2" "$2"
+}
+
+# shows_tables PROGRAM TRACE: it prints what the Rust prints with its tables.
+shows_tables() {
+    target/release/rust_replay --tables < "$2" > "$made/tables" || fail "rust_replay --tables fails on $2"
+    prints "$1" "$2" "$made/tables"
 }
 
 # rust_replays TRACE: the Rust does, with and without debug assertions.

@@ -1,19 +1,21 @@
 // The pool: open, malloc, free, close. Each takes the pool by value and returns it with the outcome, the record count and the answers taken, for every pool
-// value, every argument, every list of answers and every log.
+// value, every argument, every list of answers and every log. A pool as a call of ours leaves it is read as it is, and whole only by functions that the
+// compiler does not inline: each that it does costs a copy.
 mod leaving;
 mod refusing;
+mod unready;
 
 ghost use Rattle.calls.specs.Replies.{Opens, Mallocs, Frees, Closes};
 use closing::close_steps;
 use driving::Ended;
 use entries::buffers::find_buffer;
+use forms::is_sound;
 use free_steps::free_steps;
 use malloc_steps::malloc_steps;
 use open_steps::closed_pool;
 use open_steps::open_steps;
-use pools::enter;
-use pools::enter_close;
-use pools::in_order;
+use pools::is_open;
+use pools::stands;
 use tables::Choice;
 use tables::Outcome;
 use words::Address;
@@ -79,53 +81,57 @@ impl Pool {
     pub fn malloc(self, bytes: u64, stream: u64, answers: &[u64], log: &mut [u64]) -> Called
         ensures { λ r. ⌜ Mallocs self bytes stream (now (answers .entry)) (now (log .entry)) r (now (log .exit)) ⌝ }
     {
-        let p = self.value;
-        let admission = enter(p, log.len() / 4);
-        let Ended::On = admission else {
-            return leaving::refuse(self, admission);
-        };
-        let sized = refusing::size_refused(p.page, p.free.count + p.live.count, bytes);
-        let Ended::On = sized else {
-            return leaving::refuse(self, sized);
-        };
-        let read = in_order(p);
-        let stepped = malloc_steps(read, bytes, stream, answers, log);
-        leaving::leave(self, stepped)
+        if is_open(self.value.state, self.value.counter, log.len() / 4) {
+            if stands(self.value) {
+                if is_sound(self.value) {
+                    let spans = self.value.free.count + self.value.live.count;
+                    let sized = refusing::size_refused(self.value.page, spans, bytes);
+                    let Ended::On = sized else {
+                        return leaving::refuse(self, sized);
+                    };
+                    let stepped = malloc_steps(self.value, bytes, stream, answers, log);
+                    return leaving::leave(self, stepped);
+                }
+            }
+        }
+        unready::malloc(self, bytes, stream, answers, log)
     }
 
     // The buffer's range is inserted as free, on its stream.
     pub fn free(self, address: Address, answers: &[u64], log: &mut [u64]) -> Called
         ensures { λ r. ⌜ Frees self address (now (answers .entry)) (now (log .entry)) r (now (log .exit)) ⌝ }
     {
-        let p = self.value;
-        let admission = enter(p, log.len() / 4);
-        let Ended::On = admission else {
-            return leaving::refuse(self, admission);
-        };
-        let read = in_order(p);
-        let choice = find_buffer(read.live, address);
-        let Choice::At(at) = choice else {
-            return leaving::refuse(self, Ended::Ends(Outcome::InvalidPointer(address)));
-        };
-        let stepped = free_steps(read, at, answers, log);
-        leaving::leave(self, stepped)
+        if is_open(self.value.state, self.value.counter, log.len() / 4) {
+            if stands(self.value) {
+                if is_sound(self.value) {
+                    let choice = find_buffer(self.value.live, address);
+                    let Choice::At(at) = choice else {
+                        return leaving::refuse(self, Ended::Ends(Outcome::InvalidPointer(address)));
+                    };
+                    let stepped = free_steps(self.value, at, answers, log);
+                    return leaving::leave(self, stepped);
+                }
+            }
+        }
+        unready::free(self, address, answers, log)
     }
 
     // Sync, unmap zombies, unmap and release pages, give back roots: a failing line doesn't end a close.
     pub fn close(self, answers: &[u64], log: &mut [u64]) -> Called
         ensures { λ r. ⌜ Closes self (now (answers .entry)) (now (log .entry)) r (now (log .exit)) ⌝ }
     {
-        let p = self.value;
-        let admission = enter_close(p, log.len() / 4);
-        let Ended::On = admission else {
-            return leaving::refuse(self, admission);
-        };
-        let read = in_order(p);
-        let closing = close_steps(read, answers, log);
-        let ended = closing.ended;
-        let Ended::On = ended else {
-            return leaving::leave_short(self, closing.made);
-        };
-        leaving::leave_closed(closing.failed, closing.made)
+        if is_open(self.value.state, self.value.counter, log.len() / 4) {
+            if stands(self.value) {
+                if is_sound(self.value) {
+                    let closing = close_steps(self.value, answers, log);
+                    let ended = closing.ended;
+                    let Ended::On = ended else {
+                        return leaving::leave_short(self, closing.made);
+                    };
+                    return leaving::leave_closed(closing.failed, closing.made);
+                }
+            }
+        }
+        unready::close(self, answers, log)
     }
 }

@@ -16,6 +16,7 @@ use words::Answer;
 use words::EventId;
 use words::Record;
 use words::Word;
+use words::answer_after;
 
 // How a part of a call ended.
 pub enum Ended {
@@ -90,7 +91,7 @@ pub fn tell(
     requires { ⌜ 4 * (made + 1) ≤ length (now log) ⌝ }
     ensures { λ r. ⌜ Drove (driver (λ x. line word first second (codeOf x))) (now (answers .entry)) made (now (log .entry)) (heard r) (now (log .exit)) ⌝ }
 {
-    let answer = Answer::at(answers, made);
+    let answer = answer_after(answers, made);
     let kind = word.number();
     let code = answer.code();
     let record = Record {
@@ -108,7 +109,7 @@ fn hear(answers: &[u64], log: &mut [u64], made: usize, word: Word, second: u64) 
     requires { ⌜ 4 * (made + 1) ≤ length (now log) ⌝ }
     ensures { λ r. ⌜ Drove (driver (λ x. line word (valueOf x) second (codeOf x))) (now (answers .entry)) made (now (log .entry)) (heard r) (now (log .exit)) ⌝ }
 {
-    let answer = Answer::at(answers, made);
+    let answer = answer_after(answers, made);
     let kind = word.number();
     let first = answer.value();
     let code = answer.code();
@@ -152,7 +153,7 @@ fn ask(answers: &[u64], log: &mut [u64], made: usize, id: EventId) -> Answer
     requires { ⌜ 4 * (made + 1) ≤ length (now log) ⌝ }
     ensures { λ r. ⌜ Drove (askStep (id .0)) (now (answers .entry)) made (now (log .entry)) (heard r) (now (log .exit)) ⌝ }
 {
-    let answer = Answer::at(answers, made);
+    let answer = answer_after(answers, made);
     let kind = Word::Asked.number();
     let second = completion(answer);
     let code = answer.code();

@@ -4,3 +4,4 @@ pub mod Four
 pub mod Spacing
 pub mod Passes
 pub mod Ceilings
+pub mod Marks

@@ -63,11 +63,44 @@ fn is_rising(numbers: &[u64]) -> bool
     true
 }
 
-// No number twice. Numbers that rise are looked at once, others in pairs.
+// As `differs`, where a mark of 0 says that `x` is none of the rest.
+fn is_apart(mark: u8, x: u64, rest: &[u64]) -> bool
+    requires { ⌜ (mark ≡ 0 → every (λ y. not (eqb x y)) (now rest) ≡ true) ⌝ }
+    ensures { λ r. ⌜ r ≡ every (λ y. not (eqb x y)) (now (rest .entry)) ⌝ }
+{
+    if mark == 0 {
+        return true;
+    }
+    differs(x, rest)
+}
+
+// Each number leaves a mark by its remainder, and only numbers with one remainder are compared: numbers of a driver seldom are.
+fn is_spread(numbers: &[u64]) -> bool
+    ensures { λ r. ⌜ (r ≡ true → distinct (now (numbers .entry)) ≡ true) ⌝ }
+{
+    let mut marks: [u8; 1021] = [0; 1021];
+    let mut i = numbers.len();
+    while 0 < i {
+        let next = i;
+        i -= 1;
+        let x = numbers[i];
+        let at = (x % 1021) as usize;
+        if !is_apart(marks[at], x, &numbers[next..]) {
+            return false;
+        }
+        marks[at] = 1;
+    }
+    true
+}
+
+// No number twice. Numbers that rise, or are spread, are looked at once, others in pairs.
 pub fn is_distinct(numbers: &[u64]) -> bool
     ensures { λ r. ⌜ r ≡ distinct (now (numbers .entry)) ⌝ }
 {
     if is_rising(numbers) {
+        return true;
+    }
+    if is_spread(numbers) {
         return true;
     }
     let mut i = 0;

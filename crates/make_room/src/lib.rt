@@ -28,14 +28,13 @@ pub fn make_room(
 {
     let taken = take_room(pool, requested, stream, answers, log, made);
     let room = taken.room;
-    let with_pages = taken.pool;
     let ended = taken.ended;
     let Ended::On = ended else {
-        return ended_at(with_pages, ended, taken.made);
+        return ended_at(taken.pool, ended, taken.made);
     };
     if room.missing == 0 {
         return pull_in(
-            with_pages,
+            taken.pool,
             room,
             Made::Nothing,
             requested,
@@ -44,7 +43,7 @@ pub fn make_room(
             taken.made,
         );
     }
-    let newly = insert_new(with_pages, room, answers, log, taken.made);
+    let newly = insert_new(taken.pool, room, answers, log, taken.made);
     let newly_ended = newly.ended;
     let Ended::On = newly_ended else {
         return newly;
@@ -54,9 +53,8 @@ pub fn make_room(
         return newly;
     }
     let start = region.start;
-    let with_region = newly.pool;
     pull_in(
-        with_region,
+        newly.pool,
         room,
         Made::Region(start),
         requested - region.size,

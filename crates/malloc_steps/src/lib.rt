@@ -53,13 +53,12 @@ fn malloc_room(
         return stepped_at(pool, refused, made);
     };
     let roomed = make_room(pool, bytes, stream, answers, log, made);
-    let with_room = roomed.pool;
     let ended = roomed.ended;
     let Ended::On = ended else {
-        return stepped_at(with_room, ended, roomed.made);
+        return stepped_at(roomed.pool, ended, roomed.made);
     };
     let region = roomed.region;
-    hand_out(with_room, region, bytes, stream, roomed.made)
+    hand_out(roomed.pool, region, bytes, stream, roomed.made)
 }
 
 // 1. Cleanup. 2. Fit. 3. Otherwise make room. 4. The prefix is handed over.
@@ -73,17 +72,17 @@ pub fn malloc_steps(
     requires { ⌜ Mallocable bytes pool × (8192 ≤ length (now log)) ⌝ }
     ensures { λ r. ⌜ CallRan (mallocSteps bytes stream) 1925 (now (answers .entry)) pool (now (log .entry)) r (now (log .exit)) ⌝ }
 {
-    let cleaned = cleanup(pool.zombies, pool.holes, answers, log, 0);
+    let mut q = pool;
+    let cleaned = cleanup(q.zombies, q.holes, answers, log, 0);
     let zombies = cleaned.zombies;
     let holes = cleaned.holes;
-    let mut q = pool;
     q.zombies = zombies;
     q.holes = holes;
     let cleaned_ended = cleaned.ended;
     let Ended::On = cleaned_ended else {
         return stepped_at(q, cleaned_ended, cleaned.made);
     };
-    let fitted = fit(pool.free, bytes, stream, answers, log, cleaned.made);
+    let fitted = fit(q.free, bytes, stream, answers, log, cleaned.made);
     let free = fitted.free;
     q.free = free;
     let fitted_ended = fitted.ended;
@@ -94,5 +93,15 @@ pub fn malloc_steps(
     let Found::Region(region) = found else {
         return malloc_room(q, bytes, stream, answers, log, fitted.made);
     };
-    hand_out(q, region, bytes, stream, fitted.made)
+    let handed = hand_over(q.free, q.live, region, bytes, stream);
+    let others = handed.free;
+    let live = handed.live;
+    q.free = others;
+    q.live = live;
+    let address = region.start;
+    Stepped {
+        pool: q,
+        outcome: Outcome::Allocated(address, bytes),
+        made: fitted.made,
+    }
 }

@@ -50,14 +50,14 @@ pub fn take_room(
     requires { ⌜ Roomable requested pool × (4 * (made + 1025) ≤ length (now log)) ⌝ }
     ensures { λ r. ⌜ TakesRoom requested stream (now (answers .entry)) pool made (now (log .entry)) r (now (log .exit)) ⌝ }
 {
-    let free = free_bytes(pool.free);
-    let missing = missing_of(free, requested);
     let mut q = pool;
+    let free = free_bytes(q.free);
+    let missing = missing_of(free, requested);
     let took = take_range(
-        pool.holes,
-        pool.roots,
-        pool.page,
-        pool.va,
+        q.holes,
+        q.roots,
+        q.page,
+        q.va,
         requested,
         answers,
         log,
@@ -83,17 +83,8 @@ pub fn take_room(
             made: took.made,
         };
     };
-    let count = (missing / pool.page) as usize;
-    let paged = make_pages(
-        pool.pages,
-        holes,
-        pool.page,
-        room,
-        count,
-        answers,
-        log,
-        took.made,
-    );
+    let count = (missing / q.page) as usize;
+    let paged = make_pages(q.pages, holes, q.page, room, count, answers, log, took.made);
     let pages = paged.pages;
     let holes_left = paged.holes;
     let ended = paged.ended;

@@ -34,12 +34,12 @@ pub fn pull_in(
     requires { ⌜ Fillable room newly lacks pool × (4 * (made + 514) ≤ length (now log)) ⌝ }
     ensures { λ r. ⌜ PoolRan (pullIn (roomOf room) lacks (besides newly (freeOf (pool .free)))) 514 (now (answers .entry)) pool made (now (log .entry)) (endingWith (r .region) (r .ended)) (r .pool) (r .made) (now (log .exit)) ⌝ }
 {
-    let to = room.start.0 + room.missing;
-    let first = pool.zombies.count;
     let mut q = pool;
+    let to = room.start.0 + room.missing;
+    let first = q.zombies.count;
     let pulled = pull(
-        pool.free,
-        pool.zombies,
+        q.free,
+        q.zombies,
         newly,
         room.stream,
         lacks,
@@ -56,11 +56,11 @@ pub fn pull_in(
         return ended_at(q, pulled_ended, pulled.made);
     };
     let moved = move_pages(
-        pool.pages,
+        q.pages,
         zombies,
         first,
         to,
-        pool.page,
+        q.page,
         answers,
         log,
         pulled.made,
@@ -78,7 +78,7 @@ pub fn pull_in(
     };
     let inserted = insert_free(
         left,
-        pool.counter,
+        q.counter,
         Address(to),
         lacks,
         room.stream,

@@ -14,3 +14,6 @@ pub record Drains (chunk answers₀ log₀ out₀ : List ℕ) (line : ℕ) (answ
   pub pairs : length answers ≡ length answers₀
   pub records : length log ≡ length log₀
   pub lines : length out ≡ length out₀
+
+pub goes-as : {s t : Place} → t ≡ s → Goes s → Goes t
+goes-as e g = rw e g

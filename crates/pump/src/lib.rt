@@ -1,7 +1,7 @@
-// Reads a trace from a file, chunk by chunk, and prints on standard output what replay prints for it. It holds one chunk of the input, the answers of one call
-// and its log at a time, whatever the length of the input.
+// Reads a trace from a file, chunk by chunk, and prints on standard output what replay prints for it, or the same with the pool's tables after each result. It holds
+// one chunk of the input, the answers of one call and its log at a time, whatever the length of the input.
 ghost use mathlib.Core.Path.{_≡_};
-ghost use mathlib.Core.Bool.{true};
+ghost use mathlib.Core.Bool.{true, false};
 ghost use Prim.Native.Nat.{_+_, _≤_, _<_, _^_};
 ghost use lib.ListN.{length};
 ghost use Rattle.pump.specs.Buffers.{Buffers, Goes};
@@ -10,6 +10,7 @@ use libc::STDERR_FILENO;
 use libc::STDOUT_FILENO;
 use replaying::last;
 use replaying::turn;
+use table_text::put_tables;
 use waiting::Place;
 
 // Where the run stands after a chunk, and whether it goes on; `count` bytes were read.
@@ -20,19 +21,46 @@ struct State {
     live: bool,
 }
 
-fn not_written() {
+// To standard output; whether it could be written.
+fn written(bytes: &[u8]) -> bool {
+    if io::write_all(STDOUT_FILENO, bytes) {
+        return true;
+    }
     io::write_all(
         STDERR_FILENO,
         b"replay: standard output cannot be written\n",
     );
+    false
+}
+
+// The pool's tables; whether they could be written.
+fn show(pool: Pool, out: &mut [u8]) -> bool
+    requires { ⌜ 67935 ≤ length (now out) ⌝ }
+{
+    let value = pool.value;
+    let end = put_tables(value, out, 0);
+    written(&out[..end])
 }
 
 fn not_read() {
     io::write_all(STDERR_FILENO, b"replay: standard input cannot be read\n");
 }
 
+// The end of a run.
+fn over(pool: Pool, place: Place, count: usize) -> State
+    ensures { λ r. ⌜ (r .place ≡ place) × ((r .count ≡ count) × (r .live ≡ false)) ⌝ }
+{
+    State {
+        pool,
+        place,
+        count,
+        live: false,
+    }
+}
+
 // Prints what a chunk of the input comes to.
 fn drain(
+    tables: bool,
     chunk: &[u8],
     pool: Pool,
     s: Place,
@@ -54,14 +82,17 @@ fn drain(
         p = left;
         t = place;
         at = r.at;
-        if !io::write_all(STDOUT_FILENO, &out[..filled]) {
-            not_written();
-            return State {
-                pool: p,
-                place: t,
-                count: chunk.len(),
-                live: false,
-            };
+        if !written(&out[..filled]) {
+            return over(p, t, chunk.len());
+        }
+        if !tables {
+            continue;
+        }
+        if !r.shown {
+            continue;
+        }
+        if !show(p, out) {
+            return over(p, t, chunk.len());
         }
     }
     State {
@@ -73,35 +104,44 @@ fn drain(
 }
 
 // The end of the input. A last line that lacks its line feed counts: one is read behind it.
-fn finish(pool: Pool, s: Place, answers: &mut [u64], log: &mut [u64], out: &mut [u8])
+fn finish(tables: bool, pool: Pool, s: Place, answers: &mut [u64], log: &mut [u64], out: &mut [u8])
     requires { ⌜ Goes s × ((s .line + 1 < 2 ^ 64) × Buffers (now answers) (now log) (now out)) ⌝ }
 {
     if s.is_ended() {
-        return end(pool, s, answers, log, out);
+        return end(tables, pool, s, answers, log, out);
     }
-    let fed = drain(b"\n", pool, s, answers, log, out);
+    let fed = drain(tables, b"\n", pool, s, answers, log, out);
     let left = fed.pool;
     let place = fed.place;
     if !fed.live {
         return;
     }
-    end(left, place, answers, log, out);
+    end(tables, left, place, answers, log, out);
 }
 
 // The call that waits is run.
-fn end(pool: Pool, s: Place, answers: &[u64], log: &mut [u64], out: &mut [u8])
+fn end(tables: bool, pool: Pool, s: Place, answers: &[u64], log: &mut [u64], out: &mut [u8])
     requires { ⌜ Goes s × Buffers (now answers) (now log) (now out) ⌝ }
 {
     let r = last(pool, s, answers, log, out);
+    let left = r.pool;
     let filled = r.filled;
-    if !io::write_all(STDOUT_FILENO, &out[..filled]) {
-        not_written();
+    if !written(&out[..filled]) {
+        return;
     }
+    if !tables {
+        return;
+    }
+    if !r.shown {
+        return;
+    }
+    show(left, out);
 }
 
 // Reads once and prints what came; at the end of the input, what is left.
 fn serve(
     fd: i32,
+    tables: bool,
     pool: Pool,
     s: Place,
     answers: &mut [u64],
@@ -116,28 +156,18 @@ fn serve(
     let got = libc::read(fd, &mut buf);
     if got < 0 {
         not_read();
-        return State {
-            pool,
-            place: s,
-            count: 0,
-            live: false,
-        };
+        return over(pool, s, 0);
     }
     let n = io::count(got, &buf);
     if n == 0 {
-        finish(pool, s, answers, log, out);
-        return State {
-            pool,
-            place: s,
-            count: 0,
-            live: false,
-        };
+        finish(tables, pool, s, answers, log, out);
+        return over(pool, s, 0);
     }
-    drain(&buf[..n], pool, s, answers, log, out)
+    drain(tables, &buf[..n], pool, s, answers, log, out)
 }
 
-// From an open file to standard output.
-pub fn pump(fd: i32) {
+// From an open file to standard output; after each result the pool's tables too, if they are asked for.
+pub fn pump(fd: i32, tables: bool) {
     let mut answers: [u64; 4096] = [0; 4096];
     let mut log: [u64; 8192] = [0; 8192];
     let mut out: [u8; 147600] = [0; 147600];
@@ -145,7 +175,7 @@ pub fn pump(fd: i32) {
     let mut s = Place::first();
     let mut total: u64 = 0;
     while total < 0x8000_0000_0000_0000 {
-        let r = serve(fd, pool, s, &mut answers, &mut log, &mut out);
+        let r = serve(fd, tables, pool, s, &mut answers, &mut log, &mut out);
         if !r.live {
             return;
         }

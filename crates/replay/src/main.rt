@@ -2,5 +2,5 @@
 use libc::STDIN_FILENO;
 
 fn main() {
-    pump::pump(STDIN_FILENO);
+    pump::pump(STDIN_FILENO, false);
 }

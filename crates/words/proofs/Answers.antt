@@ -6,7 +6,7 @@ use Prim.Native.Nat.{ℕ, _+_, _*_, _≤_, _<_}
 use borrow.Author.Tests.{lt-ltb, le-ltb}
 use lib.Dec.{ltb, eqb}
 use lib.ListN.{length, getD}
-use Rattle.words.specs.Answers.{ofPair, lent, codeOf, failed}
+use Rattle.words.specs.Answers.{ofPair, lent, codeOf, failed, takenAfter}
 use Rattle.words.specs.declared.Answer.the-variants.{Done, Failed, Missing}
 
 module _ (xs : List ℕ) (k : ℕ) where
@@ -32,3 +32,11 @@ module _ (xs : List ℕ) (k : ℕ) where
           failed x ≡ not (eqb (codeOf x) 0)
       some true = pair (getD xs (2 * k) 0) (getD xs (2 * k + 1) 0) (eqb (getD xs (2 * k) 0) 0) refl
       some false = refl
+
+  pub taken-more : 2 * k + 1 < length xs → takenAfter xs k ≡ k + 1
+  unfolding takenAfter
+  taken-more h = rw (lt-ltb (2 * k + 1) (length xs) h)
+
+  pub taken-same : length xs ≤ 2 * k + 1 → takenAfter xs k ≡ k
+  unfolding takenAfter
+  taken-same h = rw (le-ltb (2 * k + 1) (length xs) h)

@@ -6,6 +6,7 @@ use lib.Dec.{ltb, eqb}
 use lib.ListN.{length, getD}
 use Rattle.words.specs.declared.Answer.{Answer}
 use Rattle.words.specs.declared.Answer.the-variants.{Done, Failed, Missing}
+use Rattle.words.specs.declared.Reader.{Reader}
 
 -- Code 0 is success. A value beside a code above 0 is ignored.
 unfoldable pub ofPair : ℕ → ℕ → Answer
@@ -35,3 +36,11 @@ failed Missing = false
 -- asked is complete only for pair (0, 1)
 abbrev pub complete : Answer → Bool
 complete x = eqb (valueOf x) 1
+
+-- How many answers are taken once the one after `taken` others is. Where none is left, none is taken.
+unfoldable pub takenAfter : List ℕ → ℕ → ℕ
+takenAfter xs taken = cond (ltb (2 * taken + 1) (length xs)) (taken + 1) taken
+
+-- The reader behind the answer that it reads next.
+abbrev pub movedOn : Reader → Reader
+movedOn r = record { answers = r .answers; place = takenAfter (r .answers .now) (r .place) }

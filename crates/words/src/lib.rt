@@ -4,7 +4,7 @@ ghost use mathlib.Core.Path.{_≡_};
 ghost use Prim.Native.Nat.{_+_, _*_, _≤_};
 ghost use lib.ListN.{length, drop};
 ghost use Rattle.words.specs.Words.{number as numberOf};
-ghost use Rattle.words.specs.Answers.{ofPair, lent, codeOf, valueOf};
+ghost use Rattle.words.specs.Answers.{ofPair, lent, codeOf, valueOf, takenAfter, movedOn};
 ghost use Rattle.words.specs.Log.{written};
 
 #[repr(C)]
@@ -103,6 +103,60 @@ impl Answer {
             Answer::Missing => 0,
         }
     }
+}
+
+// How many answers are taken once the one after `taken` others is. Where none is left, none is taken.
+fn taken_after(answers: &[u64], taken: usize) -> usize
+    ensures { λ r. ⌜ r ≡ takenAfter (now (answers .entry)) taken ⌝ }
+{
+    let pairs = answers.len() / 2;
+    if pairs <= taken {
+        return taken;
+    }
+    taken + 1
+}
+
+// A reader over the lent answers, which remembers its place: behind the answers that were taken.
+pub struct Reader<'a> {
+    answers: &'a [u64],
+    place: usize,
+}
+
+impl<'a> Reader<'a> {
+    // Behind the first `taken` answers.
+    pub fn new(answers: &'a [u64], taken: usize) -> Reader<'a>
+        ensures { λ r. ⌜ (r .answers ≡ answers .entry) × (r .place ≡ taken) ⌝ }
+    {
+        Reader {
+            answers,
+            place: taken,
+        }
+    }
+
+    // How many answers were taken.
+    pub fn taken(self) -> usize
+        ensures { λ r. ⌜ r ≡ self .entry .place ⌝ }
+    {
+        self.place
+    }
+
+    // The answer at the place, which moves on behind it.
+    pub fn next<'s>(&'s mut self) -> Answer
+        ensures { λ r. ⌜ (r ≡ lent (now (now (self .entry) .answers)) (now (self .entry) .place)) × (now (self .exit) ≡ movedOn (now (self .entry))) ⌝ }
+    {
+        let answers = self.answers;
+        let place = self.place;
+        self.place = taken_after(answers, place);
+        Answer::at(answers, place)
+    }
+}
+
+// The answer after `taken` others, by a reader.
+pub fn answer_after(answers: &[u64], taken: usize) -> Answer
+    ensures { λ r. ⌜ r ≡ lent (now (answers .entry)) taken ⌝ }
+{
+    let mut reader = Reader::new(answers, taken);
+    reader.next()
 }
 
 // A record of the log.

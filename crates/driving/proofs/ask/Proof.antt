@@ -8,8 +8,8 @@ use borrow.Author.Needs.{needs}
 use Rattle.driving.proofs.ask.Statement.{statement}
 use Rattle.driving.proofs.ask.Tie as tie
 
-at-requires : tie.Need-at-requires
-at-requires c κs = search needs
+answer-after-requires : tie.Need-answer-after-requires
+answer-after-requires c κs = search needs
 
 number-requires : tie.Need-number-requires
 number-requires c κs = search needs
@@ -30,14 +30,14 @@ returns : tie.Need-returns
 unfolding ask
 returns c =
     let a = c .before .before .before .before .before .before .before .before .before .before .args in
-    λ t. drove (λ x. asked (a .id .0) (cond (complete x) 1 0) (codeOf x)) (c .before .before .before .before .before .before .before .at .ensures)
+    λ t. drove (λ x. asked (a .id .0) (cond (complete x) 1 0) (codeOf x)) (c .before .before .before .before .before .before .before .answer-after .ensures)
     (rw (c .before .before .before .before .before .before .number .ensures, c .before .before .before .before .before .completion .ensures, c .before .before .before .before .code .ensures) at (c .before .before .write .ensures))
 
 pub ask-spec : {M : Type 1} → statement M
 ask-spec =
     tie.close
     (tie.spec
-    at-requires
+    answer-after-requires
     number-requires
     completion-requires
     code-requires

@@ -6,8 +6,8 @@ use borrow.Author.Needs.{needs}
 use Rattle.driving.proofs.hear.Statement.{statement}
 use Rattle.driving.proofs.hear.Tie as tie
 
-at-requires : tie.Need-at-requires
-at-requires c κs = search needs
+answer-after-requires : tie.Need-answer-after-requires
+answer-after-requires c κs = search needs
 
 number-requires : tie.Need-number-requires
 number-requires c κs = search needs
@@ -27,14 +27,14 @@ same-length c = search needs
 returns : tie.Need-returns
 returns c =
     let a = c .before .before .before .before .before .before .before .before .before .before .args in
-    λ t. drove (λ x. line (a .word) (valueOf x) (a .second) (codeOf x)) (c .before .before .before .before .before .before .before .at .ensures)
+    λ t. drove (λ x. line (a .word) (valueOf x) (a .second) (codeOf x)) (c .before .before .before .before .before .before .before .answer-after .ensures)
     (rw (c .before .before .before .before .before .before .number .ensures, c .before .before .before .before .before .value .ensures, c .before .before .before .before .code .ensures) at (c .before .before .write .ensures))
 
 pub hear-spec : {M : Type 1} → statement M
 hear-spec =
     tie.close
     (tie.spec
-    at-requires
+    answer-after-requires
     number-requires
     value-requires
     code-requires

@@ -6,8 +6,8 @@ use borrow.Author.Needs.{needs}
 use Rattle.driving.proofs.tell.Statement.{statement}
 use Rattle.driving.proofs.tell.Tie as tie
 
-at-requires : tie.Need-at-requires
-at-requires c κs = search needs
+answer-after-requires : tie.Need-answer-after-requires
+answer-after-requires c κs = search needs
 
 number-requires : tie.Need-number-requires
 number-requires c κs = search needs
@@ -24,10 +24,10 @@ same-length c = search needs
 returns : tie.Need-returns
 returns c =
     let a = c .before .before .before .before .before .before .before .before .before .args in
-    λ t. drove (λ x. line (a .word) (a .first) (a .second) (codeOf x)) (c .before .before .before .before .before .before .at .ensures)
+    λ t. drove (λ x. line (a .word) (a .first) (a .second) (codeOf x)) (c .before .before .before .before .before .before .answer-after .ensures)
     (rw (c .before .before .before .before .before .number .ensures, c .before .before .before .before .code .ensures) at (c .before .before .write .ensures))
 
 pub tell-spec : {M : Type 1} → statement M
 tell-spec =
     tie.close
-    (tie.spec at-requires number-requires code-requires write-requires same-length returns)
+    (tie.spec answer-after-requires number-requires code-requires write-requires same-length returns)

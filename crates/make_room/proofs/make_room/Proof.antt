@@ -11,7 +11,7 @@ at-entry c = c .before .before .before .before
 
 -- a range was taken and its pages made: where that was called
 abbrev taking : tie.After-struct-known → tie.After-take-room
-taking c = c .before .before .before .before .before .before .before
+taking c = c .before .before .before .before .before .before
 
 -- the new pages were inserted: what came before
 abbrev made : tie.After-insert-new → tie.Else1
@@ -19,7 +19,7 @@ made c = c .before .before
 
 -- the region is not enough: where it was inserted
 abbrev inserting : tie.After-pull-in-arg2 → tie.After-insert-new
-inserting c = c .before .before .before .before .before .before .before .before .before .before .before
+inserting c = c .before .before .before .before .before .before .before .before .before .before
 
 some-missing : (c : tie.Else1) → 0 < taking (c .before) .take-room .result .room .missing
 some-missing c = omega (arith, c .if1 .left)
@@ -41,7 +41,7 @@ same-length c = search needs
 
 returns : tie.Need-returns
 returns c =
-    let w = c .before .before .before .before .before .before .before in
+    let w = c .before .before .before .before .before .before in
     let s = at-entry w in
     rw (c .ended-at .ensures) (take-stopped (s .pre .0) (w .take-room .ensures) _ (c .before .enum-told2 .given .1))
 
@@ -111,7 +111,7 @@ pull-in-requires-2 c κs =
     let v = made q .before in
     let w = taking v in
     let s = at-entry w in
-    let e = c .before .before .before .before in (
+    let e = c .before .before .before in (
       fillable-rest (s .pre .0) (w .take-room .ensures) (v .before .enum-told .given .1) (some-missing (made q)) (q .insert-new .result) _
           (q .insert-new .ensures .0) (e .before .before .before .enum-told3 .given .1) (omega (arith, e .if2 .left)) (q .insert-new .ensures .1),
       omega (
@@ -137,7 +137,7 @@ returns-5 c =
     let q = inserting (x .before) in
     let v = made q .before in
     let w = taking v in
-    let e = x .before .before .before .before .before in
+    let e = x .before .before .before .before in
     filled-rest (at-entry w .pre .0) (w .take-room .ensures) (v .before .enum-told .given .1) (some-missing (made q)) (q .insert-new .result) _
     (q .insert-new .ensures .0) (e .before .before .before .enum-told3 .given .1) (omega (arith, e .if2 .left)) (x .pull-in2 .result) _
     (x .pull-in2 .ensures)

@@ -12,8 +12,8 @@ abbrev admitting : tie.After-enum-told → tie.After-room-refused
 admitting c = c .before .before
 
 -- room was made: where that was called
-abbrev rooming : tie.After-with-room → tie.After-make-room
-rooming c = c .before .before .before
+abbrev rooming : tie.After-slice-known2 → tie.After-make-room
+rooming c = c .before .before
 
 room-refused-requires : tie.Need-room-refused-requires
 room-refused-requires c κs = readable (c .before .before .pre .0)

@@ -15,7 +15,10 @@ use Rattle.malloc_steps.proofs.Ways.{
   roomed-out,
   fit-handable,
   fit-handed,
+  with-tables,
 }
+use Rattle.malloc_steps.specs.Mallocking.{Handable}
+use Rattle.malloc_steps.proofs.Handing.{can-hand, handed-out}
 use Rattle.malloc_steps.proofs.malloc_steps.Statement.{statement}
 use Rattle.malloc_steps.proofs.malloc_steps.Tie as tie
 
@@ -122,8 +125,15 @@ returns-3 c =
     roomed-out (s .pre .0) (s .args .stream) (w .cleanup .ensures) (v .before .before .enum-told .given .1) (v .fit .ensures)
     (x .enum-told3 .given .1) (ap fitOf (y .before .before .enum-told5 .given .1)) (y .malloc-room .result) _ (y .malloc-room .ensures)
 
-hand-out-requires : tie.Need-hand-out-requires
-hand-out-requires c κs =
+-- the region that fits can be handed over
+handable : (c : tie.After-known-told) →
+    let x = c .before .before .before in
+    let v = fitting x in
+    let w = cleaning (v .before .before) in
+    let s = at-entry w in
+    Handable (s .args .bytes) (c .before .found .given .0 .0)
+    (with-tables (v .fit .result .free) (w .cleanup .result .zombies) (w .cleanup .result .holes) (s .args .pool))
+handable c =
     let x = c .before .before .before in
     let v = fitting x in
     let w = cleaning (v .before .before) in
@@ -131,17 +141,22 @@ hand-out-requires c κs =
     fit-handable (s .pre .0) (s .args .stream) (w .cleanup .ensures) (v .before .before .enum-told .given .1) (v .fit .ensures)
     (x .enum-told3 .given .1) _ (ap fitOf (c .before .found .given .1))
 
+hand-over-requires : tie.Need-hand-over-requires
+hand-over-requires c κs = can-hand _ _ _ (handable c)
+
 same-length-4 : tie.Need-same-length-4
-same-length-4 c = omega (arith, fit-length (fitting (c .before .before .before .before)))
+same-length-4 c = omega (arith, fit-length (fitting (c .before .before .before .before .before .before .before)))
 
 returns-4 : tie.Need-returns-4
 returns-4 c =
-    let x = c .before .before .before .before in
+    let h = c .before .before .before in
+    let x = h .before .before .before .before in
     let v = fitting x in
     let w = cleaning (v .before .before) in
     let s = at-entry w in
     fit-handed (s .pre .0) (s .args .stream) (w .cleanup .ensures) (v .before .before .enum-told .given .1) (v .fit .ensures)
-    (x .enum-told3 .given .1) _ (ap fitOf (c .before .before .found .given .1)) (c .hand-out .result) (c .hand-out .ensures)
+    (x .enum-told3 .given .1) _ (ap fitOf (h .before .before .found .given .1)) _
+    (handed-out _ _ _ _ _ (handable (h .before) .tables) (h .hand-over .result) (h .hand-over .ensures))
 
 pub malloc-steps-spec : {M : Type 1} → statement M
 malloc-steps-spec =
@@ -164,6 +179,6 @@ malloc-steps-spec =
     malloc-room-requires
     same-length-3
     returns-3
-    hand-out-requires
+    hand-over-requires
     same-length-4
     returns-4)

@@ -8,17 +8,14 @@ use Rattle.pump.proofs.end.Tie as tie
 last-requires : tie.Need-last-requires
 last-requires c κs = search needs
 
-slice-reshare-prefix-write-all : tie.Need-slice-reshare-prefix-write-all
-slice-reshare-prefix-write-all c = search needs
+slice-reshare-prefix-written : tie.Need-slice-reshare-prefix-written
+slice-reshare-prefix-written c = search needs
 
-slice-aggregate-write-all : tie.Need-slice-aggregate-write-all
-slice-aggregate-write-all c = sym (length-take-le _ _ (c .before .before .before .before .before .last .ensures .filled))
+slice-aggregate-written : tie.Need-slice-aggregate-written
+slice-aggregate-written c = sym (length-take-le _ _ (c .before .before .before .before .before .before .last .ensures .filled))
 
-write-all-requires : tie.Need-write-all-requires
-write-all-requires c κs = search needs
-
-not-written-requires : tie.Need-not-written-requires
-not-written-requires c κs = search needs
+written-requires : tie.Need-written-requires
+written-requires c κs = search needs
 
 same-length : tie.Need-same-length
 same-length c = search needs
@@ -38,18 +35,45 @@ same-length-4 c = search needs
 returns-2 : tie.Need-returns-2
 returns-2 c = search needs
 
+same-length-5 : tie.Need-same-length-5
+same-length-5 c = search needs
+
+same-length-6 : tie.Need-same-length-6
+same-length-6 c = search needs
+
+returns-3 : tie.Need-returns-3
+returns-3 c = search needs
+
+show-requires : tie.Need-show-requires
+show-requires c κs = search needs
+
+same-length-7 : tie.Need-same-length-7
+same-length-7 c = search needs
+
+same-length-8 : tie.Need-same-length-8
+same-length-8 c = search needs
+
+returns-4 : tie.Need-returns-4
+returns-4 c = search needs
+
 pub end-spec : {M : Type 1} → statement M
 end-spec =
     tie.close
     (tie.spec
     last-requires
-    slice-reshare-prefix-write-all
-    slice-aggregate-write-all
-    write-all-requires
-    not-written-requires
+    slice-reshare-prefix-written
+    slice-aggregate-written
+    written-requires
     same-length
     same-length-2
     returns
     same-length-3
     same-length-4
-    returns-2)
+    returns-2
+    same-length-5
+    same-length-6
+    returns-3
+    show-requires
+    same-length-7
+    same-length-8
+    returns-4)

@@ -1,5 +1,5 @@
 -- `pump::finish` meets its contract. Assumes nothing.
-use mathlib.Core.Path.{_≡_, _∙_}
+use mathlib.Core.Path.{_∙_}
 use native.Mathlib.Omega.{arith}
 use borrow.Author.Needs.{needs}
 use Rattle.pump.proofs.finish.Statement.{statement}
@@ -47,9 +47,9 @@ end-requires-2 c κs =
     let b = c .before .before .before .before .before .before .before .before .before .before .before .before .before .before .before .before .before .before .before .before .before .before .before .pre .1 .1 in (
       d .ensures .0,
       record {
-        pairs = d .kept .1 .1 .1 .0 ∙ b .pairs;
-        records = d .kept .1 .1 .1 .1 .0 ∙ b .records;
-        lines = omega (arith, d .kept .1 .1 .1 .1 .1 .0, b .lines);
+        pairs = d .kept .1 .1 .1 .1 .0 ∙ b .pairs;
+        records = d .kept .1 .1 .1 .1 .1 .0 ∙ b .records;
+        lines = omega (arith, d .kept .1 .1 .1 .1 .1 .1 .0, b .lines);
       },
     )
 

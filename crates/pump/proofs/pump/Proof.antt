@@ -1,9 +1,8 @@
 -- `pump::pump` meets its contract: it ends, as each turn of the loop reads some bytes, and the line number fits. Assumes nothing.
-use mathlib.Core.Path.{_≡_, refl, sym, _∙_, ap}
+use mathlib.Core.Path.{_∙_, ap}
 use Prim.Native.Nat.{_+_, _-_, _≤_}
 use native.Mathlib.Omega.{arith}
 use borrow.Author.Tests.{not-false}
-use lib.ListN.{length}
 use Rattle.waiting.specs.declared.Place.{Place}
 use Rattle.pump.specs.Buffers.{Buffers, Goes}
 use borrow.Author.Needs.{needs}
@@ -11,10 +10,10 @@ use Rattle.pump.proofs.pump.Statement.{statement}
 use Rattle.pump.proofs.pump.Tie as tie
 
 abbrev Inv-loop : tie.InvT-loop
-Inv-loop fd answers₀ log₀ out₀ pool₀ s₀ total₀ answers log out pool s total = Goes s × ((s .line ≤ total + 1) × ((total ≤ 9223372036854841344) × Buffers answers log out))
+Inv-loop fd tables answers₀ log₀ out₀ pool₀ s₀ total₀ answers log out pool s total = Goes s × ((s .line ≤ total + 1) × ((total ≤ 9223372036854841344) × Buffers answers log out))
 
 abbrev μ-loop : tie.MeasureT-loop
-μ-loop fd answers₀ log₀ out₀ pool₀ s₀ total₀ answers log out pool s total = 9223372036854841344 - total
+μ-loop fd tables answers₀ log₀ out₀ pool₀ s₀ total₀ answers log out pool s total = 9223372036854841344 - total
 
 closed-requires : tie.Need-closed-requires Inv-loop μ-loop
 closed-requires c κs = search needs
@@ -66,9 +65,9 @@ loop-again c =
         (
           omega (arith, v .ensures .0 .1 .1, c .before .before .before .before .before .before .before .before .before .before .before .loop-test .taken),
           record {
-            pairs = v .kept .1 .1 .1 .0 ∙ b .pairs;
-            records = v .kept .1 .1 .1 .1 .0 ∙ b .records;
-            lines = omega (arith, v .kept .1 .1 .1 .1 .1 .0, b .lines);
+            pairs = v .kept .1 .1 .1 .1 .0 ∙ b .pairs;
+            records = v .kept .1 .1 .1 .1 .1 .0 ∙ b .records;
+            lines = omega (arith, v .kept .1 .1 .1 .1 .1 .1 .0, b .lines);
           },
         ),
       ),

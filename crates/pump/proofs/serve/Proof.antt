@@ -1,8 +1,10 @@
 -- `pump::serve` meets its contract. Assumes nothing.
-use mathlib.Core.Path.{_≡_}
+use mathlib.Core.Path.{ap, sym, _∙_}
 use mathlib.Core.Bool.{false≢true}
 use native.Mathlib.Omega.{arith}
 use borrow.Author.Needs.{needs}
+use Rattle.waiting.specs.declared.Place.{Place}
+use Rattle.pump.proofs.Drains.{goes-as}
 use Rattle.pump.proofs.serve.Statement.{statement}
 use Rattle.pump.proofs.serve.Tie as tie
 
@@ -18,8 +20,15 @@ read-requires c κs = search needs
 not-read-requires : tie.Need-not-read-requires
 not-read-requires c κs = search needs
 
+over-requires : tie.Need-over-requires
+over-requires c κs = search needs
+
 returns : tie.Need-returns
-returns c = ((c .before .before .before .before .before .before .before .before .before .pre .0, (omega arith, omega arith)), λ e. absurd (false≢true e))
+returns c =
+    let e = c .over .ensures in
+    let p = c .before .before .before .before .before .before .before .before .before .before .pre .0 in
+    let n = ap (λ (x : Place). x .line) (e .0) in
+    ((goes-as (e .0) p, (omega (arith, n), omega (arith, e .1 .0))), λ t. absurd (false≢true (sym (e .1 .1) ∙ t)))
 
 slice-aggregate-count : tie.Need-slice-aggregate-count
 slice-aggregate-count c = search needs
@@ -29,6 +38,9 @@ count-requires c κs = search needs
 
 finish-requires : tie.Need-finish-requires
 finish-requires c κs = search needs
+
+over-requires-2 : tie.Need-over-requires-2
+over-requires-2 c κs = search needs
 
 same-length : tie.Need-same-length
 same-length c = search needs
@@ -40,7 +52,11 @@ same-length-3 : tie.Need-same-length-3
 same-length-3 c = search needs
 
 returns-2 : tie.Need-returns-2
-returns-2 c = ((c .before .before .before .before .before .before .before .before .before .before .before .before .before .before .before .before .before .before .before .before .before .pre .0, (omega arith, omega arith)), λ e. absurd (false≢true e))
+returns-2 c =
+    let e = c .over2 .ensures in
+    let p = c .before .before .before .before .before .before .before .before .before .before .before .before .before .before .before .before .before .before .before .before .before .before .pre .0 in
+    let n = ap (λ (x : Place). x .line) (e .0) in
+    ((goes-as (e .0) p, (omega (arith, n), omega (arith, e .1 .0))), λ t. absurd (false≢true (sym (e .1 .1) ∙ t)))
 
 array-share-prefix-buf : tie.Need-array-share-prefix-buf
 array-share-prefix-buf c = search needs
@@ -71,10 +87,12 @@ serve-spec =
     slice-aggregate-read
     read-requires
     not-read-requires
+    over-requires
     returns
     slice-aggregate-count
     count-requires
     finish-requires
+    over-requires-2
     same-length
     same-length-2
     same-length-3

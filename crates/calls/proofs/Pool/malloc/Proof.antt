@@ -1,28 +1,54 @@
--- `calls::Pool::malloc` meets its contract: refused at entry or for its size, or what its steps leave. Assumes nothing.
-use mathlib.Core.Path.{sym, _∙_}
+-- `calls::Pool::malloc` meets its contract: refused for its size, what its steps leave of the pool as it stands, or what is said of any other pool. Assumes
+-- nothing.
+use mathlib.Core.Path.{_≡_, sym, _∙_}
 use Prim.Native.Nat.{_/_}
 use native.Mathlib.Omega.{arith}
 use borrow.Author.Needs.{needs}
 use lib.ListN.{length}
-use Rattle.tables.specs.Malloc.{mallocBy}
-use Rattle.pools.specs.Entering.{Admitted}
-use Rattle.calls.proofs.Reading.{ceilings-of, read-opened, read-tables}
+use Rattle.tables.specs.Values.{opened, atEntry, poolOf}
+use Rattle.pools.specs.Entering.{Admitted, Stands}
+use Rattle.pools.proofs.Reading.{read-same}
+use Rattle.pools.proofs.Entering.{is-ready}
+use Rattle.calls.proofs.Reading.{stands-read, read-tables}
 use Rattle.calls.proofs.Left.{replies-none, replies-left, long}
 use Rattle.calls.proofs.Mallocking.{page-some, spans-few, mallocable, malloc-refused, malloc-goes}
 use Rattle.calls.proofs.Pool.malloc.Statement.{statement}
 use Rattle.calls.proofs.Pool.malloc.Tie as tie
 
-abbrev at-entry : tie.After-enter → tie.Start
-at-entry c = c .before .before .before .before
+abbrev at-entry : tie.Then2 → tie.Start
+at-entry c = c .before .before .before .before .before .before
 
-abbrev entered : tie.After-enum-told → tie.After-enter
-entered c = c .before .before
+standing : (c : tie.Then2) → Stands (at-entry c .args .self .value)
+standing c = c .before .stands .ensures (c .if2 .taken)
 
-admitted : (c : tie.After-enum-told) → let v = entered c in Admitted (at-entry v .args .self .value) (length (at-entry v .args .log .now) / 4)
-admitted c = entered c .enter .ensures .goes (c .enum-told .given .1)
+-- the last test passes
+abbrev start : tie.Then3 → tie.Start
+start c = at-entry (c .before .before)
 
-enter-requires : tie.Need-enter-requires
-enter-requires c κs = search needs
+admitted : (c : tie.Then3) → Admitted (start c .args .self .value) (length (start c .args .log .now) / 4)
+admitted c =
+    let d = c .before .before in
+    let o = d .before .before in
+    let k = o .before .is-open .ensures (o .if1 .taken) in
+    is-ready (start c .args .self .value) _ (k .0) (k .1 .0) (k .1 .1) (standing d) (sym (c .before .is-sound .ensures) ∙ c .if3 .taken)
+
+read : (c : tie.Then3) → let p = start c .args .self .value in p ≡ poolOf opened (atEntry p)
+read c = stands-read (start c .args .self .value) (admitted c .state) (standing (c .before .before))
+
+is-open-requires : tie.Need-is-open-requires
+is-open-requires c κs = search needs
+
+stands-requires : tie.Need-stands-requires
+stands-requires c κs = search needs
+
+is-sound-requires : tie.Need-is-sound-requires
+is-sound-requires c κs = (standing c .ceilings, read-same (at-entry c .args .self .value) (standing c .same))
+
+add-spans : tie.Need-add-spans
+add-spans c = omega (arith, spans-few (start (c .before) .args .self .value) _ (admitted (c .before)))
+
+size-refused-requires : tie.Need-size-refused-requires
+size-refused-requires c κs = page-some (start (c .before) .args .self .value) _ (admitted (c .before))
 
 enum-told : tie.Need-enum-told
 enum-told c = search needs
@@ -34,51 +60,22 @@ refuse-requires : tie.Need-refuse-requires
 refuse-requires c κs = search needs
 
 returns : tie.Need-returns
-unfolding mallocBy
 returns c =
-    let v = c .before .before .before in
-    let e = c .before .enum-told2 .given .1 in
-    replies-none _ (at-entry v .args .self) _ (v .enter .ensures .stops _ e _) (c .refuse .ensures .stops _ e)
-
-add-size-refused : tie.Need-add-size-refused
-add-size-refused c = omega (arith, spans-few (at-entry (entered (c .before)) .args .self .value) _ (admitted (c .before)))
-
-size-refused-requires : tie.Need-size-refused-requires
-size-refused-requires c κs = page-some (at-entry (entered (c .before)) .args .self .value) _ (admitted (c .before))
-
-enum-told-3 : tie.Need-enum-told-3
-enum-told-3 c = search needs
-
-enum-told-4 : tie.Need-enum-told-4
-enum-told-4 c = search needs
-
-refuse-requires-2 : tie.Need-refuse-requires-2
-refuse-requires-2 c κs = search needs
-
-returns-2 : tie.Need-returns-2
-returns-2 c =
     let z = c .before .before .before in
     let b = z .before .before in
-    let a = at-entry (entered b) .args in
-    let e = c .before .enum-told4 .given .1 in
+    let a = start b .args in
+    let e = c .before .enum-told2 .given .1 in
     replies-none _ (a .self) _ (malloc-refused (a .self .value) _ (admitted b) (a .bytes) (a .stream) _ _ (sym (z .size-refused .ensures) ∙ e))
-    (c .refuse2 .ensures .stops _ e)
-
-in-order-requires : tie.Need-in-order-requires
-in-order-requires c κs =
-    let b = c .before .before .before .before in
-    ceilings-of (at-entry (entered b) .args .self .value) (admitted b .form)
+    (c .refuse .ensures .stops _ e)
 
 malloc-steps-requires : tie.Need-malloc-steps-requires
 malloc-steps-requires c κs =
-    let q = c .before in
-    let g = q .before in
+    let g = c .before in
     let z = g .before .before in
     let b = z .before .before in
-    let k = admitted b in
-    let a = at-entry (entered b) .args in
-    let e = sym (z .size-refused .ensures) ∙ g .enum-told3 .given .1 in
-    (mallocable (a .self .value) _ k (a .bytes) e _ (read-opened (a .self .value) _ (k .state) (q .in-order .ensures)), long (a .log .now) (k .log))
+    let a = start b .args in
+    let e = sym (z .size-refused .ensures) ∙ g .enum-told .given .1 in
+    (mallocable (a .self .value) _ (admitted b) (a .bytes) e _ (read b), long (a .log .now) (admitted b .log))
 
 leave-requires : tie.Need-leave-requires
 leave-requires c κs = search needs
@@ -86,36 +83,43 @@ leave-requires c κs = search needs
 same-length : tie.Need-same-length
 same-length c = search needs
 
-returns-3 : tie.Need-returns-3
-returns-3 c =
+returns-2 : tie.Need-returns-2
+returns-2 c =
     let f = c .before .before .before in
-    let q = f .before .before in
-    let g = q .before in
+    let g = f .before .before in
     let z = g .before .before in
     let b = z .before .before in
-    let k = admitted b in
-    let a = at-entry (entered b) .args in
-    let e = sym (z .size-refused .ensures) ∙ g .enum-told3 .given .1 in
-    replies-left (a .self) _ (read-tables (a .self .value) _ _ (q .in-order .ensures)) (f .malloc-steps .ensures)
-    (malloc-goes (a .self .value) _ k (a .bytes) (a .stream) _ e) (c .leave .ensures)
+    let a = start b .args in
+    let e = sym (z .size-refused .ensures) ∙ g .enum-told .given .1 in
+    replies-left (a .self) _ (read-tables (a .self .value) _ _ (read b)) (f .malloc-steps .ensures)
+    (malloc-goes (a .self .value) _ (admitted b) (a .bytes) (a .stream) _ e) (c .leave .ensures)
+
+malloc-requires : tie.Need-malloc-requires
+malloc-requires c κs = search needs
+
+same-length-2 : tie.Need-same-length-2
+same-length-2 c = search needs
+
+returns-3 : tie.Need-returns-3
+returns-3 c = c .before .before .malloc .ensures
 
 pub malloc-spec : {M : Type 1} → statement M
 malloc-spec =
     tie.close
     (tie.spec
-    enter-requires
+    is-open-requires
+    stands-requires
+    is-sound-requires
+    add-spans
+    size-refused-requires
     enum-told
     enum-told-2
     refuse-requires
     returns
-    add-size-refused
-    size-refused-requires
-    enum-told-3
-    enum-told-4
-    refuse-requires-2
-    returns-2
-    in-order-requires
     malloc-steps-requires
     leave-requires
     same-length
+    returns-2
+    malloc-requires
+    same-length-2
     returns-3)

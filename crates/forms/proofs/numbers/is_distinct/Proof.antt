@@ -25,6 +25,12 @@ is-rising-requires c κs = search needs
 returns : tie.Need-returns Inv-loop μ-loop
 returns c = sym (c .before .is-rising .ensures (c .if1 .taken))
 
+is-spread-requires : tie.Need-is-spread-requires Inv-loop μ-loop
+is-spread-requires c κs = search needs
+
+returns-2 : tie.Need-returns-2 Inv-loop μ-loop
+returns-2 c = sym (c .before .is-spread .ensures (c .if2 .taken))
+
 loop-holds : tie.Need-loop-holds Inv-loop μ-loop
 loop-holds c = (search needs, refl)
 
@@ -55,28 +61,28 @@ differs-requires c κs = search needs
 -- what the test of all pairs comes to at a turn
 here : (c : tie.After-differs Inv-loop μ-loop) →
     let v = c .before .before .before .before in
-    let l = v .before .before .before .before .args .numbers .now in
+    let l = v .before .before .before .before .before .before .args .numbers .now in
     distinct l ≡ (c .differs .result && distinct (drop (v .loop .i + 1) l))
 here c =
     let v = c .before .before .before .before in
-    let l = v .before .before .before .before .args .numbers .now in
+    let l = v .before .before .before .before .before .before .args .numbers .now in
     let i = v .loop .i in
     let e : c .differs .result ≡ every (λ y. not (eqb (getD l i 0) y)) (take (length l - (i + 1)) (drop (i + 1) l)) = c .differs .ensures in
     v .loop .inv .1 ∙ rw (turn-all l i 0 (omega arith), e, take-all (length l - (i + 1)) (drop (i + 1) l) (simp length-drop (omega arith)))
 
-returns-2 : tie.Need-returns-2 Inv-loop μ-loop
-returns-2 c = sym (here (c .before) ∙ rw (not-true (c .before .differs .result) (c .if2 .taken)))
+returns-3 : tie.Need-returns-3 Inv-loop μ-loop
+returns-3 c = sym (here (c .before) ∙ rw (not-true (c .before .differs .result) (c .if3 .taken)))
 
 loop-less : tie.Need-loop-less Inv-loop μ-loop
 loop-less c = search needs
 
 loop-again : tie.Need-loop-again Inv-loop μ-loop
-loop-again c = (search needs, here (c .before) ∙ rw (not-false (c .before .differs .result) (c .if2 .left)))
+loop-again c = (search needs, here (c .before) ∙ rw (not-false (c .before .differs .result) (c .if3 .left)))
 
-returns-3 : tie.Need-returns-3 Inv-loop μ-loop
-returns-3 c =
+returns-4 : tie.Need-returns-4 Inv-loop μ-loop
+returns-4 c =
     let v = c .before in
-    let e = drop-of-length-le (v .before .before .before .before .args .numbers .now) {i = v .loop .i} (omega arith) in
+    let e = drop-of-length-le (v .before .before .before .before .before .before .args .numbers .now) {i = v .loop .i} (omega arith) in
     sym (v .loop .inv .1 ∙ ap distinct e)
 
 pub is-distinct-spec : {M : Type 1} → statement M
@@ -87,6 +93,8 @@ is-distinct-spec =
     μ-loop
     is-rising-requires
     returns
+    is-spread-requires
+    returns-2
     loop-holds
     add-next
     mul-differs
@@ -96,7 +104,7 @@ is-distinct-spec =
     part-differs-start
     part-differs-end
     differs-requires
-    returns-2
+    returns-3
     loop-less
     loop-again
-    returns-3)
+    returns-4)

@@ -4,7 +4,6 @@ use mathlib.Core.Bool.{false≢true}
 use Prim.Native.Nat.{_-_, _≤_}
 use native.Mathlib.Omega.{arith}
 use borrow.Author.Needs.{needs}
-use borrow.Author.Tests.{not-false}
 use lib.ListN.{length, getD, drop, replicate}
 use Rattle.lists.proofs.Tests.{length-mapped}
 use Rattle.tables.specs.Values.{address}

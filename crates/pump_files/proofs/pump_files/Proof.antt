@@ -1,14 +1,14 @@
--- `replay_sessions::main` meets its contract: each turn leaves one argument less. Assumes nothing.
+-- `pump_files::pump_files` meets its contract: each turn leaves one argument less. Assumes nothing.
 use Prim.Native.Nat.{_-_}
 use borrow.Author.Needs.{needs}
-use Rattle.replay_sessions.proofs.main.Statement.{statement}
-use Rattle.replay_sessions.proofs.main.Tie as tie
+use Rattle.pump_files.proofs.pump_files.Statement.{statement}
+use Rattle.pump_files.proofs.pump_files.Tie as tie
 
 abbrev Inv-loop : tie.InvT-loop
-Inv-loop n i₀ i = Unit {0}
+Inv-loop tables n i₀ i = Unit {0}
 
 abbrev μ-loop : tie.MeasureT-loop
-μ-loop n i₀ i = n - i
+μ-loop tables n i₀ i = n - i
 
 arg-count-requires : tie.Need-arg-count-requires Inv-loop μ-loop
 arg-count-requires c κs = search needs
@@ -31,8 +31,8 @@ loop-again c = search needs
 returns : tie.Need-returns Inv-loop μ-loop
 returns c = search needs
 
-pub main-spec : {M : Type 1} → statement M
-main-spec =
+pub pump-files-spec : {M : Type 1} → statement M
+pump-files-spec =
     tie.close
     (tie.spec
     Inv-loop

@@ -1,0 +1,74 @@
+// Calls on a pool that is not ready to be read as it is: it is refused, or its tables are put in order first.
+ghost use Rattle.calls.specs.Replies.{Mallocs, Frees, Closes};
+use super::Called;
+use super::Pool;
+use crate::leaving::leave;
+use crate::leaving::leave_closed;
+use crate::leaving::leave_short;
+use crate::leaving::refuse;
+use crate::refusing::size_refused;
+use closing::close_steps;
+use driving::Ended;
+use entries::buffers::find_buffer;
+use free_steps::free_steps;
+use malloc_steps::malloc_steps;
+use pools::enter;
+use pools::enter_close;
+use pools::in_order;
+use tables::Choice;
+use tables::Outcome;
+use words::Address;
+
+// Refused, or malloc over the pool put in order.
+pub fn malloc(pool: Pool, bytes: u64, stream: u64, answers: &[u64], log: &mut [u64]) -> Called
+    ensures { λ r. ⌜ Mallocs pool bytes stream (now (answers .entry)) (now (log .entry)) r (now (log .exit)) ⌝ }
+{
+    let p = pool.value;
+    let admission = enter(p, log.len() / 4);
+    let Ended::On = admission else {
+        return refuse(pool, admission);
+    };
+    let sized = size_refused(p.page, p.free.count + p.live.count, bytes);
+    let Ended::On = sized else {
+        return refuse(pool, sized);
+    };
+    let read = in_order(p);
+    let stepped = malloc_steps(read, bytes, stream, answers, log);
+    leave(pool, stepped)
+}
+
+// Refused, or free over the pool put in order.
+pub fn free(pool: Pool, address: Address, answers: &[u64], log: &mut [u64]) -> Called
+    ensures { λ r. ⌜ Frees pool address (now (answers .entry)) (now (log .entry)) r (now (log .exit)) ⌝ }
+{
+    let p = pool.value;
+    let admission = enter(p, log.len() / 4);
+    let Ended::On = admission else {
+        return refuse(pool, admission);
+    };
+    let read = in_order(p);
+    let choice = find_buffer(read.live, address);
+    let Choice::At(at) = choice else {
+        return refuse(pool, Ended::Ends(Outcome::InvalidPointer(address)));
+    };
+    let stepped = free_steps(read, at, answers, log);
+    leave(pool, stepped)
+}
+
+// Refused, or close over the pool put in order: a stopped pool comes here too.
+pub fn close(pool: Pool, answers: &[u64], log: &mut [u64]) -> Called
+    ensures { λ r. ⌜ Closes pool (now (answers .entry)) (now (log .entry)) r (now (log .exit)) ⌝ }
+{
+    let p = pool.value;
+    let admission = enter_close(p, log.len() / 4);
+    let Ended::On = admission else {
+        return refuse(pool, admission);
+    };
+    let read = in_order(p);
+    let closing = close_steps(read, answers, log);
+    let ended = closing.ended;
+    let Ended::On = ended else {
+        return leave_short(pool, closing.made);
+    };
+    leave_closed(closing.failed, closing.made)
+}

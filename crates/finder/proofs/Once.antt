@@ -1,0 +1,11 @@
+-- A second answer that meets a promise is the first: the pool, the numbers, the counts and every log cell. Assumes nothing.
+use mathlib.Core.Path.{_≡_, sym, _∙_}
+use mathlib.Core.List.{List}
+use Prim.Native.Nat.{ℕ}
+use Rattle.tables.specs.HandsBack as rule
+use Rattle.finder.specs.Tells.{Tells}
+use Rattle.finder.specs.declared.Reply.{Reply}
+
+-- the promise of each function is `Tells` of its rule
+pub tells-once : (w : rule.Reply) (r r′ : Reply) (log m m′ : List ℕ) → Tells w r log m → Tells w r′ log m′ → (r ≡ r′) × (m ≡ m′)
+tells-once w r r′ log m m′ a b = (a .reply ∙ sym (b .reply), a .cells ∙ sym (b .cells))

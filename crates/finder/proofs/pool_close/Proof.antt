@@ -1,0 +1,22 @@
+-- `finder::pool_close` meets its contract: `Pool::close`'s own, with the numbers of the outcome. Assumes nothing.
+use borrow.Author.Needs.{needs}
+use Rattle.finder.proofs.Told.{tells}
+use Rattle.finder.proofs.pool_close.Statement.{statement}
+use Rattle.finder.proofs.pool_close.Tie as tie
+
+close-requires : tie.Need-close-requires
+close-requires c κs = search needs
+
+numbers-of-requires : tie.Need-numbers-of-requires
+numbers-of-requires c κs = search needs
+
+same-length : tie.Need-same-length
+same-length c = search needs
+
+returns : tie.Need-returns
+returns c =
+    let called = c .before .before .before .before in
+    tells _ (called .close .result) (c .before .numbers-of .result) _ _ (called .close .ensures) (c .before .numbers-of .ensures)
+
+pub pool-close-spec : {M : Type 1} → statement M
+pool-close-spec = tie.close (tie.spec close-requires numbers-of-requires same-length returns)

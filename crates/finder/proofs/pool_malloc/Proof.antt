@@ -1,0 +1,22 @@
+-- `finder::pool_malloc` meets its contract: `Pool::malloc`'s own, with the numbers of the outcome. Assumes nothing.
+use borrow.Author.Needs.{needs}
+use Rattle.finder.proofs.Told.{tells}
+use Rattle.finder.proofs.pool_malloc.Statement.{statement}
+use Rattle.finder.proofs.pool_malloc.Tie as tie
+
+malloc-requires : tie.Need-malloc-requires
+malloc-requires c κs = search needs
+
+numbers-of-requires : tie.Need-numbers-of-requires
+numbers-of-requires c κs = search needs
+
+same-length : tie.Need-same-length
+same-length c = search needs
+
+returns : tie.Need-returns
+returns c =
+    let called = c .before .before .before .before in
+    tells _ (called .malloc .result) (c .before .numbers-of .result) _ _ (called .malloc .ensures) (c .before .numbers-of .ensures)
+
+pub pool-malloc-spec : {M : Type 1} → statement M
+pool-malloc-spec = tie.close (tie.spec malloc-requires numbers-of-requires same-length returns)

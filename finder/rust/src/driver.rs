@@ -1,0 +1,178 @@
+//! The card's driver, as the pool sees it: document 01's words, a method for each.
+
+use std::num::NonZeroU64;
+
+use crate::Happened;
+
+/// A driver's failure. 0 is success and so is no failure.
+pub type Code = NonZeroU64;
+
+/// The driver calls that a pool makes. Each is made once, in the order of the call's log.
+///
+/// Addresses, handles, event ids and streams are numbers; what they stand for is the driver's to
+/// know. A map is of one page, the size that create was told.
+///
+/// A method must not panic: the pool would stay as it was before the call, while the card has seen
+/// a part of it.
+pub trait Driver {
+    /// Reserves a range of addresses and gives its base.
+    fn reserve(&mut self, va_size: u64) -> Result<u64, Code>;
+    /// Creates a page and gives its handle. Code 2 says that memory is used up, which ends no pool;
+    /// any other does.
+    fn create(&mut self, page_size: u64) -> Result<u64, Code>;
+    /// Maps the page of a handle at an address.
+    fn map(&mut self, address: u64, handle: u64) -> Result<(), Code>;
+    /// Lets the card read and write a range.
+    fn access(&mut self, address: u64, bytes: u64) -> Result<(), Code>;
+    /// Unmaps a range, of one page or more.
+    fn unmap(&mut self, address: u64, bytes: u64) -> Result<(), Code>;
+    /// Releases a page's handle.
+    fn release(&mut self, handle: u64) -> Result<(), Code>;
+    /// Records a fresh event on a stream, to be known by this id.
+    fn record(&mut self, id: u64, stream: u64) -> Result<(), Code>;
+    /// Says whether an event is complete, without waiting.
+    fn asked(&mut self, id: u64) -> Result<bool, Code>;
+    /// Lets a stream wait for an event.
+    fn wait(&mut self, id: u64, stream: u64) -> Result<(), Code>;
+    /// Waits for all work of a stream. A close syncs stream 0 and means the whole card.
+    fn sync(&mut self, stream: u64) -> Result<(), Code>;
+    /// Gives a reserved range back.
+    fn giveback(&mut self, base: u64, va_size: u64) -> Result<(), Code>;
+
+    /// Is told each call of the pool when it has ended: to print a trace, for instance. No driver
+    /// call.
+    fn happened(&mut self, _call: &Happened) {}
+}
+
+/// Document 01's driver words, in its order.
+#[derive(Clone, Copy, Debug, PartialEq, Eq, PartialOrd, Ord)]
+#[allow(missing_docs, reason = "the methods of Driver say what they are")]
+pub enum Word {
+    Reserve,
+    Create,
+    Map,
+    Access,
+    Unmap,
+    Release,
+    Record,
+    Asked,
+    Wait,
+    Sync,
+    Giveback,
+}
+
+impl Word {
+    /// Every word.
+    pub const ALL: [Word; 11] = [
+        Word::Reserve,
+        Word::Create,
+        Word::Map,
+        Word::Access,
+        Word::Unmap,
+        Word::Release,
+        Word::Record,
+        Word::Asked,
+        Word::Wait,
+        Word::Sync,
+        Word::Giveback,
+    ];
+
+    /// The word as a trace has it.
+    pub fn name(self) -> &'static str {
+        match self {
+            Word::Reserve => "reserve",
+            Word::Create => "create",
+            Word::Map => "map",
+            Word::Access => "access",
+            Word::Unmap => "unmap",
+            Word::Release => "release",
+            Word::Record => "record",
+            Word::Asked => "asked",
+            Word::Wait => "wait",
+            Word::Sync => "sync",
+            Word::Giveback => "giveback",
+        }
+    }
+
+    /// The word of a log's kind, which counts them from 1.
+    fn of_kind(kind: u64) -> Option<Self> {
+        let place = usize::try_from(kind).ok()?.checked_sub(1)?;
+        Self::ALL.get(place).copied()
+    }
+}
+
+/// One driver call with its answer, as the log and a trace have it.
+#[derive(Clone, Copy, Debug, PartialEq, Eq)]
+pub struct Record {
+    /// Which call.
+    pub word: Word,
+    /// Its first number; of a reserve or create that succeeded, what the driver gave.
+    pub first: u64,
+    /// Its second number; of an asked, 1 for complete.
+    pub second: u64,
+    /// 0 for success.
+    pub code: u64,
+}
+
+impl Record {
+    /// A record of the log.
+    pub fn of_numbers(numbers: [u64; 4]) -> Option<Self> {
+        let [kind, first, second, code] = numbers;
+        Some(Self {
+            word: Word::of_kind(kind)?,
+            first,
+            second,
+            code,
+        })
+    }
+
+    /// The record that this driver call leaves when it is answered so.
+    pub(crate) fn answered(self, answer: Answer) -> Self {
+        let Answer { code, value } = answer;
+        let given = if code == 0 { value } else { 0 };
+        let (first, second) = match self.word {
+            Word::Reserve | Word::Create => (given, self.second),
+            Word::Asked => (self.first, (given == 1) as u64),
+            _ => (self.first, self.second),
+        };
+        Self {
+            first,
+            second,
+            code,
+            ..self
+        }
+    }
+}
+
+/// What the library is lent for one driver call. Value is a base, a handle, or 1 for complete.
+#[derive(Clone, Copy, Debug, PartialEq, Eq)]
+pub(crate) struct Answer {
+    pub code: u64,
+    pub value: u64,
+}
+
+/// Makes the driver call of a record. What only an answer tells is not looked at.
+pub(crate) fn make(driver: &mut dyn Driver, wanted: Record) -> Answer {
+    let Record { first, second, .. } = wanted;
+    let nothing = |()| 0;
+    let answer = match wanted.word {
+        Word::Reserve => driver.reserve(second),
+        Word::Create => driver.create(second),
+        Word::Map => driver.map(first, second).map(nothing),
+        Word::Access => driver.access(first, second).map(nothing),
+        Word::Unmap => driver.unmap(first, second).map(nothing),
+        Word::Release => driver.release(first).map(nothing),
+        Word::Record => driver.record(first, second).map(nothing),
+        Word::Asked => driver.asked(first).map(u64::from),
+        Word::Wait => driver.wait(first, second).map(nothing),
+        Word::Sync => driver.sync(first).map(nothing),
+        Word::Giveback => driver.giveback(first, second).map(nothing),
+    };
+    match answer {
+        Ok(value) => Answer { code: 0, value },
+        Err(code) => Answer {
+            code: code.get(),
+            value: 0,
+        },
+    }
+}

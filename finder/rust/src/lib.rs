@@ -1,0 +1,39 @@
+//! The proved virtual memory pool, for programs in Rust.
+//!
+//! The pool itself is a library in Rattle, whose functions are proved to do what document 01 says.
+//! It makes no driver call: it is lent the driver's answers and writes down the calls that they
+//! belong to. This package makes those calls. Write a [`Driver`] over the card's driver, then
+//!
+//! ```no_run
+//! # use caldarimpu::{Card, Config, Pool};
+//! # fn tour(mut driver: Card) -> Result<(), caldarimpu::Refusal> {
+//! let mut pool = Pool::open(&mut driver, Config::new(2 << 20, 1 << 30))?;
+//! let buffer = pool.malloc(&mut driver, 4 << 20, 1)?;
+//! pool.free(&mut driver, buffer.address)?;
+//! pool.close(&mut driver)?;
+//! # Ok(())
+//! # }
+//! ```
+//!
+//! [`Driver::happened`] is told each call with its driver calls and its result; it displays as a
+//! trace, which the programs replay and judge read.
+
+#![deny(unsafe_code, missing_docs)]
+
+mod ahead;
+mod card;
+mod driver;
+#[allow(
+    unsafe_code,
+    reason = "the library's functions are called here, and nowhere else"
+)]
+pub mod ffi;
+mod pool;
+mod refusal;
+mod trace;
+
+pub use card::Card;
+pub use driver::{Code, Driver, Record, Word};
+pub use pool::{Buffer, Freed, Pool};
+pub use refusal::Refusal;
+pub use trace::{Call, Config, Happened};

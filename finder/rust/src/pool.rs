@@ -1,0 +1,164 @@
+//! The pool, with its value and what its calls need kept out of sight.
+
+use std::fmt;
+
+use crate::{
+    ahead::Ahead,
+    ffi::{self, state, Reply},
+    Call, Config, Driver, Happened, Refusal,
+};
+
+/// An open or stopped pool. It owns no driver, so dropping it gives nothing back: close it.
+#[must_use = "a pool that is dropped gives nothing back: close it"]
+pub struct Pool {
+    /// Some 22 KB.
+    value: Box<ffi::Pool>,
+    ahead: Ahead,
+}
+
+/// What malloc hands out.
+#[derive(Clone, Copy, Debug, PartialEq, Eq)]
+pub struct Buffer {
+    /// Where it starts.
+    pub address: u64,
+    /// Its bytes, as asked for.
+    pub size: u64,
+}
+
+/// What free took back.
+#[derive(Clone, Copy, Debug, PartialEq, Eq)]
+pub struct Freed {
+    /// The buffer's bytes.
+    pub size: u64,
+    /// The stream that it was asked for on.
+    pub stream: u64,
+}
+
+impl Pool {
+    /// Reserves a first range and makes the initial pages. If that fails, what was taken is given
+    /// back at once.
+    pub fn open(driver: &mut dyn Driver, config: Config) -> Result<Self, Refusal> {
+        let mut pool = Self {
+            value: Box::new(ffi::Pool::closed()),
+            ahead: Ahead::new(),
+        };
+        match pool.call(driver, Call::Open(config)) {
+            Ok(_) => Ok(pool),
+            Err(refusal) => {
+                pool.give_up(driver);
+                Err(refusal)
+            }
+        }
+    }
+
+    /// A buffer of `bytes`, a multiple of the page size, for work on a stream.
+    pub fn malloc(
+        &mut self,
+        driver: &mut dyn Driver,
+        bytes: u64,
+        stream: u64,
+    ) -> Result<Buffer, Refusal> {
+        let (address, size) = self.call(driver, Call::Malloc { bytes, stream })?;
+        Ok(Buffer { address, size })
+    }
+
+    /// Gives a buffer back. Work on its stream may still use it; others wait for that, or take
+    /// something else.
+    pub fn free(&mut self, driver: &mut dyn Driver, address: u64) -> Result<Freed, Refusal> {
+        let (size, stream) = self.call(driver, Call::Free { address })?;
+        Ok(Freed { size, stream })
+    }
+
+    /// Gives everything back, live buffers too, and tells how many of the driver calls failed.
+    pub fn close(mut self, driver: &mut dyn Driver) -> Result<u64, Refusal> {
+        let (failures, _) = self.call(driver, Call::Close)?;
+        Ok(failures)
+    }
+
+    /// The page size: sizes are its multiples.
+    pub fn page_size(&self) -> u64 {
+        self.value.page
+    }
+
+    /// Whether a driver failure or an incredible answer stopped the pool: then only close is
+    /// served.
+    pub fn is_stopped(&self) -> bool {
+        self.value.state == state::STOPPED
+    }
+
+    /// The pool value, for a look at its tables.
+    pub fn value(&self) -> &ffi::Pool {
+        &self.value
+    }
+
+    /// Runs a call to its end and gives its two values.
+    fn call(&mut self, driver: &mut dyn Driver, call: Call) -> Result<(u64, u64), Refusal> {
+        let value = &*self.value;
+        let run = |answers: &[u64], log: &mut [u64]| run(value, call, answers, log);
+        let reply = self.ahead.settle(driver, value.pages.entries(), run);
+        let Reply {
+            answer,
+            first,
+            second,
+            ..
+        } = reply;
+        *self.value = reply.pool;
+        driver.happened(&Happened {
+            call,
+            records: self.ahead.made(),
+            answer,
+            first,
+            second,
+            runs: self.ahead.runs(),
+        });
+        match Refusal::of_numbers(answer, first, second) {
+            None => Ok((first, second)),
+            Some(refusal) => Err(refusal),
+        }
+    }
+
+    /// After an opening that failed: closes what stands, if anything does.
+    fn give_up(mut self, driver: &mut dyn Driver) {
+        if self.value.state != state::CLOSED {
+            // A close of a stopped pool is always served, and the opening's refusal is what the
+            // caller is told.
+            let _ = self.call(driver, Call::Close);
+        }
+    }
+}
+
+/// How full it is: the tables themselves are long.
+impl fmt::Debug for Pool {
+    fn fmt(&self, out: &mut fmt::Formatter) -> fmt::Result {
+        let value = &self.value;
+        out.debug_struct("Pool")
+            .field("state", &value.state)
+            .field("page", &value.page)
+            .field("va", &value.va)
+            .field("free", &value.free.count)
+            .field("live", &value.live.count)
+            .field("holes", &value.holes.count)
+            .field("zombies", &value.zombies.count)
+            .field("pages", &value.pages.count)
+            .field("roots", &value.roots.count)
+            .finish_non_exhaustive()
+    }
+}
+
+/// Runs a call once, on the answers lent.
+pub(crate) fn run(value: &ffi::Pool, call: Call, answers: &[u64], log: &mut [u64]) -> Reply {
+    match call {
+        Call::Open(config) => ffi::open(
+            config.granularity,
+            config.override_size,
+            config.va_size,
+            config.initial_pages,
+            config.initial_stream,
+            answers,
+            log,
+        ),
+        Call::Malloc { bytes, stream } => ffi::malloc(value, bytes, stream, answers, log),
+        Call::Free { address } => ffi::free(value, address, answers, log),
+        Call::Close => ffi::close(value, answers, log),
+    }
+}

@@ -1,0 +1,215 @@
+//! Document 01's answers other than success.
+
+use std::{error::Error, fmt};
+
+/// Why a call was not served. 17, answers ran out, is not among them: the driver is always asked.
+#[derive(Clone, Copy, Debug, PartialEq, Eq)]
+pub enum Refusal {
+    /// 1. Not for a [`Pool`](crate::Pool), which is gone when it is closed.
+    PoolClosed,
+    /// 2: a call before was answered 14 or 15.
+    PoolStopped,
+    /// 3. Not for a [`Pool`](crate::Pool), which keeps the library's own values.
+    NotWellFormed,
+    /// 4. Not for a [`Pool`](crate::Pool), whose log is long enough.
+    ShortLog,
+    /// 5: 2^62 events were recorded.
+    IdsSpent,
+    /// 6: the size is 0 or no multiple of the page size.
+    BadSize {
+        /// The size asked for.
+        size: u64,
+    },
+    /// 7: there are 128 free regions and live buffers.
+    SpansFull,
+    /// 8: nothing free fits, and the size is above that of a root.
+    RequestedExceedsVa {
+        /// The size asked for.
+        size: u64,
+        /// The bytes of a root.
+        va_size: u64,
+    },
+    /// 9: nothing free fits, and 256 active pages would not do.
+    PagesFull,
+    /// 10: nothing free fits, and moving pages could leave more zombies or holes than there is room
+    /// for.
+    ZombiesFull,
+    /// 11: no hole suffices, and there are 16 roots.
+    RootsFull,
+    /// 12: the driver would not reserve.
+    ReserveFailed {
+        /// The bytes of a root.
+        va_size: u64,
+        /// The page size.
+        page_size: u64,
+    },
+    /// 13: the driver has no memory for the pages that are missing.
+    OutOfMemory {
+        /// Bytes that had to be created.
+        missing: u64,
+        /// Bytes of them that were, and were released again.
+        created: u64,
+    },
+    /// 14: another driver call failed. The pool is stopped.
+    DriverFailed {
+        /// The driver's code.
+        code: u64,
+    },
+    /// 15: a base or a handle that the driver can't have given. The pool is stopped.
+    Incredible,
+    /// 16: no live buffer starts there.
+    InvalidPointer {
+        /// The address.
+        address: u64,
+    },
+    /// 19: a configuration that open does not take.
+    BadConfiguration,
+}
+
+use Refusal::*;
+
+impl Refusal {
+    /// The refusal of an answer's three numbers; none for 0, which is success.
+    pub(crate) fn of_numbers(answer: u64, first: u64, second: u64) -> Option<Self> {
+        Some(match answer {
+            0 => return None,
+            1 => PoolClosed,
+            2 => PoolStopped,
+            3 => NotWellFormed,
+            4 => ShortLog,
+            5 => IdsSpent,
+            6 => BadSize { size: first },
+            7 => SpansFull,
+            8 => RequestedExceedsVa {
+                size: first,
+                va_size: second,
+            },
+            9 => PagesFull,
+            10 => ZombiesFull,
+            11 => RootsFull,
+            12 => ReserveFailed {
+                va_size: first,
+                page_size: second,
+            },
+            13 => OutOfMemory {
+                missing: first,
+                created: second,
+            },
+            14 => DriverFailed { code: first },
+            15 => Incredible,
+            16 => InvalidPointer { address: first },
+            19 => BadConfiguration,
+            other => {
+                panic!("libfinder.a answers {other}, which no call of this package has to meet")
+            }
+        })
+    }
+
+    /// Document 01's number.
+    pub fn number(self) -> u64 {
+        match self {
+            PoolClosed => 1,
+            PoolStopped => 2,
+            NotWellFormed => 3,
+            ShortLog => 4,
+            IdsSpent => 5,
+            BadSize { .. } => 6,
+            SpansFull => 7,
+            RequestedExceedsVa { .. } => 8,
+            PagesFull => 9,
+            ZombiesFull => 10,
+            RootsFull => 11,
+            ReserveFailed { .. } => 12,
+            OutOfMemory { .. } => 13,
+            DriverFailed { .. } => 14,
+            Incredible => 15,
+            InvalidPointer { .. } => 16,
+            BadConfiguration => 19,
+        }
+    }
+
+    /// Whether the pool is stopped since: then only close is served.
+    pub fn stops(self) -> bool {
+        matches!(self, DriverFailed { .. } | Incredible)
+    }
+}
+
+/// What is wrong, and what to do.
+impl fmt::Display for Refusal {
+    fn fmt(&self, out: &mut fmt::Formatter) -> fmt::Result {
+        match *self {
+            PoolClosed => out.write_str("the pool is closed: open one"),
+            PoolStopped => out.write_str("the pool is stopped: close it and open another"),
+            NotWellFormed => out.write_str("the value is no pool that a call left"),
+            ShortLog => out.write_str("the log has no room for 2048 records"),
+            IdsSpent => out.write_str("2^62 events were recorded: close the pool and open another"),
+            BadSize { size } => {
+                write!(
+                    out,
+                    "{size} bytes: ask for a multiple of the page size, and not for 0"
+                )
+            }
+            SpansFull => out.write_str(
+                "128 free regions and live buffers: free one beside a free region of its stream",
+            ),
+            RequestedExceedsVa { size, va_size } => write!(
+                out,
+                "{size} bytes, and a reservation has {va_size}: ask for less, or open with a \
+                 larger va_size"
+            ),
+            PagesFull => {
+                out.write_str("more than 256 pages: free buffers, or open with a larger page size")
+            }
+            ZombiesFull => out.write_str("too many moved ranges: let streams finish, ask again"),
+            RootsFull => {
+                out.write_str("16 reservations, and no hole suffices: ask for less, free buffers")
+            }
+            ReserveFailed { va_size, page_size } => write!(
+                out,
+                "the driver would not reserve {va_size} bytes for pages of {page_size}: free \
+                 address space, then ask again"
+            ),
+            OutOfMemory { missing, created } => write!(
+                out,
+                "the card has no memory: {missing} bytes were missing, {created} could be created: \
+                 free buffers"
+            ),
+            DriverFailed { code } => {
+                write!(out, "a driver call failed with code {code}: close the pool")
+            }
+            Incredible => out.write_str(
+                "the driver gave a base or a handle that can't be: close the pool, mend the driver",
+            ),
+            InvalidPointer { address } => write!(out, "no live buffer starts at {address}"),
+            BadConfiguration => out.write_str(
+                "wanted: a granularity above 0 that divides the override; a va_size above 0, at \
+                 most 2^46, that is a multiple of the page size; at most 256 initial pages, which \
+                 fit in it",
+            ),
+        }
+    }
+}
+
+impl Error for Refusal {}
+
+#[cfg(test)]
+mod tests {
+    use super::*;
+
+    #[test]
+    fn numbers_come_back() {
+        assert_eq!(Refusal::of_numbers(0, 1, 2), None);
+        for answer in (1..=16).chain([19]) {
+            let refusal = Refusal::of_numbers(answer, 5, 6).expect("a refusal");
+            assert_eq!(refusal.number(), answer);
+            assert_eq!(refusal.stops(), answer == 14 || answer == 15);
+            assert!(!refusal.to_string().is_empty());
+        }
+    }
+
+    #[test]
+    #[should_panic(expected = "answers 17")]
+    fn answers_never_run_out() {
+        Refusal::of_numbers(17, 0, 0);
+    }
+}

@@ -1,0 +1,92 @@
+//! Document 01's trace: a call, its driver calls, its result, one line each.
+
+use std::fmt;
+
+use crate::Record;
+
+/// How a pool is opened.
+#[derive(Clone, Copy, Debug, PartialEq, Eq)]
+pub struct Config {
+    /// The driver's smallest page size.
+    pub granularity: u64,
+    /// The page size to use, a multiple of the granularity; 0 for the granularity itself.
+    pub override_size: u64,
+    /// The bytes of each reservation.
+    pub va_size: u64,
+    /// Pages made at once.
+    pub initial_pages: u64,
+    /// The stream that they are made on.
+    pub initial_stream: u64,
+}
+
+impl Config {
+    /// Pages of the granularity, none of them made at once.
+    pub fn new(granularity: u64, va_size: u64) -> Self {
+        Self {
+            granularity,
+            override_size: 0,
+            va_size,
+            initial_pages: 0,
+            initial_stream: 0,
+        }
+    }
+
+    /// The page size that is used.
+    pub fn page_size(&self) -> u64 {
+        match self.override_size {
+            0 => self.granularity,
+            size => size,
+        }
+    }
+}
+
+/// A call of the pool.
+#[derive(Clone, Copy, Debug, PartialEq, Eq)]
+#[allow(missing_docs, reason = "the methods of Pool say what they are")]
+pub enum Call {
+    Open(Config),
+    Malloc { bytes: u64, stream: u64 },
+    Free { address: u64 },
+    Close,
+}
+
+/// A call that has ended. It displays as its lines of a trace.
+#[derive(Clone, Copy, Debug, PartialEq, Eq)]
+pub struct Happened<'a> {
+    /// The call.
+    pub call: Call,
+    /// Its driver calls, in order.
+    pub records: &'a [Record],
+    /// Document 01's number: 0 for success.
+    pub answer: u64,
+    /// The answer's first value.
+    pub first: u64,
+    /// The answer's second value.
+    pub second: u64,
+    /// How often the library was run for it: more than once where an answer could not be guessed.
+    pub runs: u64,
+}
+
+impl fmt::Display for Happened<'_> {
+    fn fmt(&self, out: &mut fmt::Formatter) -> fmt::Result {
+        let (word, numbers) = match self.call {
+            Call::Open(config) => {
+                let page_size = config.page_size();
+                ("open", [page_size, config.va_size, config.initial_pages])
+            }
+            Call::Malloc { bytes, stream } => ("malloc", [bytes, stream, 0]),
+            Call::Free { address } => ("free", [address, 0, 0]),
+            Call::Close => ("close", [0, 0, 0]),
+        };
+        line(out, word, numbers)?;
+        for record in self.records {
+            let numbers = [record.first, record.second, record.code];
+            line(out, record.word.name(), numbers)?;
+        }
+        line(out, "result", [self.first, self.second, self.answer])
+    }
+}
+
+fn line(out: &mut fmt::Formatter, word: &str, [first, second, third]: [u64; 3]) -> fmt::Result {
+    writeln!(out, "{word}\t{first}\t{second}\t{third}")
+}
