@@ -1,6 +1,6 @@
-//! The port, by the static library of crates/measured.
+//! The port, by its static library; finder/pool.h says what the structs and functions are.
 
-use compare::session::Call;
+use compare::session::{Answered, Call};
 
 const PAGES: usize = 256;
 const SPANS: usize = 128;
@@ -23,10 +23,9 @@ impl<const WORDS: usize, const CELLS: usize> Table<WORDS, CELLS> {
     };
 }
 
-/// The pool value as crates/tables lays it out.
 #[repr(C)]
 #[derive(Clone, Copy)]
-pub struct Pool {
+struct Pool {
     state: u64,
     page: u64,
     va: u64,
@@ -39,24 +38,44 @@ pub struct Pool {
     roots: Table<1, ROOTS>,
 }
 
+impl Pool {
+    const CLOSED: Self = Self {
+        state: 0,
+        page: 0,
+        va: 0,
+        counter: 0,
+        free: Table::EMPTY,
+        live: Table::EMPTY,
+        holes: Table::EMPTY,
+        zombies: Table::EMPTY,
+        pages: Table::EMPTY,
+        roots: Table::EMPTY,
+    };
+}
+
 #[repr(C)]
-struct Measured {
+struct Reply {
     pool: Pool,
+    answer: u64,
+    first: u64,
+    second: u64,
     records: usize,
     taken: usize,
 }
 
 extern "C" {
-    fn measured_open(
+    fn pool_open(
         granularity: u64,
+        override_size: u64,
         va_size: u64,
         initial_pages: u64,
+        initial_stream: u64,
         answers: *const u64,
         answers_len: usize,
         log: *mut u64,
         log_len: usize,
-    ) -> Measured;
-    fn measured_malloc(
+    ) -> Reply;
+    fn pool_malloc(
         pool: Pool,
         bytes: u64,
         stream: u64,
@@ -64,77 +83,90 @@ extern "C" {
         answers_len: usize,
         log: *mut u64,
         log_len: usize,
-    ) -> Measured;
-    fn measured_free(
+    ) -> Reply;
+    fn pool_free(
         pool: Pool,
         address: u64,
         answers: *const u64,
         answers_len: usize,
         log: *mut u64,
         log_len: usize,
-    ) -> Measured;
-    fn measured_close(
+    ) -> Reply;
+    fn pool_close(
         pool: Pool,
         answers: *const u64,
         answers_len: usize,
         log: *mut u64,
         log_len: usize,
-    ) -> Measured;
+    ) -> Reply;
 }
 
 pub struct Ours {
     pool: Box<Pool>,
+    answers: Vec<u64>,
     log: Vec<u64>,
+    /// Records of the last call.
+    records: usize,
 }
 
 impl Ours {
     pub fn new() -> Self {
-        let pool = Box::new(Pool {
-            state: 0,
-            page: 0,
-            va: 0,
-            counter: 0,
-            free: Table::EMPTY,
-            live: Table::EMPTY,
-            holes: Table::EMPTY,
-            zombies: Table::EMPTY,
-            pages: Table::EMPTY,
-            roots: Table::EMPTY,
-        });
         Self {
-            pool,
+            pool: Box::new(Pool::CLOSED),
+            answers: Vec::new(),
             log: vec![0; LOG],
+            records: 0,
         }
     }
 
-    /// Runs a call and gives the number of its records.
-    #[inline(never)]
-    pub fn run(&mut self, call: Call, answers: &[u64]) -> usize {
-        let (lent, count) = (answers.as_ptr(), answers.len());
+    /// Lends the answers of the next call; not part of it.
+    pub fn lend(&mut self, answers: &[u64]) {
+        self.answers.clear();
+        self.answers.extend_from_slice(answers);
+    }
+
+    pub fn run(&mut self, call: Call) -> Answered {
+        let (lent, count) = (self.answers.as_ptr(), self.answers.len());
         let (log, room) = (self.log.as_mut_ptr(), self.log.len());
         // SAFETY: both slices live through the call, and the structs are the library's own.
-        let measured = unsafe {
+        let reply = unsafe {
             match call {
                 Call::Open {
                     page_size,
                     va_size,
                     initial_pages,
-                } => measured_open(page_size, va_size, initial_pages, lent, count, log, room),
+                } => pool_open(
+                    page_size,
+                    0,
+                    va_size,
+                    initial_pages,
+                    0,
+                    lent,
+                    count,
+                    log,
+                    room,
+                ),
                 Call::Malloc { bytes, stream } => {
-                    measured_malloc(*self.pool, bytes, stream, lent, count, log, room)
+                    pool_malloc(*self.pool, bytes, stream, lent, count, log, room)
                 }
-                Call::Free { address } => {
-                    measured_free(*self.pool, address, lent, count, log, room)
-                }
-                Call::Close => measured_close(*self.pool, lent, count, log, room),
+                Call::Free { address } => pool_free(*self.pool, address, lent, count, log, room),
+                Call::Close => pool_close(*self.pool, lent, count, log, room),
             }
         };
-        *self.pool = measured.pool;
-        measured.records
+        *self.pool = reply.pool;
+        self.records = reply.records;
+        Answered {
+            first: reply.first,
+            second: reply.second,
+            answer: reply.answer,
+        }
     }
 
-    /// The records of the last call, as the log has them.
-    pub fn record(&self, at: usize) -> [u64; 4] {
-        [0, 1, 2, 3].map(|cell| self.log[4 * at + cell])
+    /// The records of the last call: kind, first, second, code.
+    pub fn records(&self) -> Vec<[u64; 4]> {
+        let cells = self.log.chunks_exact(4).take(self.records);
+        cells
+            .map(|cells| [cells[0], cells[1], cells[2], cells[3]])
+            .collect()
     }
 }

@@ -2,7 +2,7 @@
 
 use std::{cell::RefCell, rc::Rc};
 
-use compare::session::{Call, Session};
+use compare::session::{Answered, Call, Session};
 use original::driver::{self, Answer, Answers, Record};
 
 #[derive(Default)]
@@ -11,14 +11,16 @@ struct Lent {
     at: usize,
 }
 
+/// Past what was lent all succeeds, which only the close of `drop` comes to.
 impl Answers for Lent {
     fn lend(&mut self, _wanted: Record) -> Answer {
-        let at = self.at;
+        let number = |at: usize| self.answers.get(at).copied().unwrap_or_default();
+        let answer = Answer {
+            code: number(self.at) as i32,
+            value: number(self.at + 1),
+        };
         self.at += 2;
-        Answer {
-            code: self.answers[at] as i32,
-            value: self.answers[at + 1],
-        }
+        answer
     }
 }
 
@@ -40,14 +42,32 @@ impl Rust {
         lent.answers.clear();
         lent.answers.extend_from_slice(answers);
         lent.at = 0;
+        driver::make_room(answers.len() / 2);
     }
 
-    #[inline(never)]
-    pub fn run(&mut self, call: Call) {
-        std::hint::black_box(self.session.answer(call));
+    pub fn run(&mut self, call: Call) -> Answered {
+        self.session.answer(call)
     }
 
-    pub fn records(&mut self) -> Vec<Record> {
-        driver::take_records()
+    /// The records of the last call, with the numbers that ours has for them.
+    pub fn records(&mut self) -> Vec<[u64; 4]> {
+        let records = driver::take_records().into_iter();
+        records
+            .map(|record| {
+                [
+                    record.word as u64 + 1,
+                    record.first,
+                    record.second,
+                    record.code,
+                ]
+            })
+            .collect()
+    }
+}
+
+/// A pool that was left open would keep its memory, and the next replay get colder one.
+impl Drop for Rust {
+    fn drop(&mut self) {
+        self.session.answer(Call::Close);
     }
 }

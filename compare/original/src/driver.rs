@@ -94,6 +94,14 @@ pub fn number_next_stream(number: u64) {
     with_card(|card| card.next_stream = number);
 }
 
+/// Makes room for a call's records and events, so that a benchmark does not time the noting of them.
+pub fn make_room(records: usize) {
+    with_card(|card| {
+        card.records.reserve(records);
+        card.events.reserve(records);
+    });
+}
+
 /// Hands over the records noted since the last time.
 pub fn take_records() -> Vec<Record> {
     with_card(|card| std::mem::take(&mut card.records))

@@ -1,6 +1,6 @@
 -- The relation between the pool's tables and the judge's state: reservations are the roots; the handles held are those of the page table; mapped are the
 -- active pages and the zombies' pages, on active pages as the page table says, and every handle under a mapped page is held; the live buffers are the
--- same; the last recorded id is the counter less one.
+-- same; the last recorded id is the counter less one. The theorem does not name it: what is to be believed is in Runs, Premises and Replays.
 use mathlib.Core.Path.{_≡_}
 use mathlib.Core.Bool.{true, false, _||_}
 use mathlib.Core.List.{List, []}

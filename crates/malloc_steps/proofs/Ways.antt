@@ -1,11 +1,12 @@
 -- The ways through malloc's steps, by where they end: each is what the callees walked, one after the other. What is sound after each step, which the
 -- next leans on, is what the rules keep. Assumes nothing.
-use mathlib.Core.Path.{_≡_, refl}
+use mathlib.Core.Path.{_≡_, refl, _∙_}
 use mathlib.Core.List.{List}
 use mathlib.Core.Option.{Option, some, none}
 use Prim.Native.Nat.{ℕ, _≤_}
 use native.Mathlib.Omega.{arith}
-use Rattle.tables.specs.Values.{tablesOf}
+use lib.ListN.{length}
+use Rattle.tables.specs.Values.{tablesOf, zombiesOf}
 use Rattle.tables.specs.Kept.{KeptPool}
 use Rattle.tables.specs.Steps.{on, ends}
 use Rattle.tables.specs.Cleanup.{cleanup}
@@ -17,15 +18,16 @@ use Rattle.tables.specs.declared.Holes.{Holes}
 use Rattle.tables.specs.declared.Zombies.{Zombies}
 use Rattle.tables.specs.declared.Pool.{Pool}
 use Rattle.tables.specs.declared.Outcome.{Outcome}
+use Rattle.tables.proofs.Packs.{zombies-count}
 use Rattle.keeping.proofs.Cleanup.{cleans-up}
 use Rattle.keeping.proofs.Fit.{Fitting, fits}
 use Rattle.keeping.proofs.Malloc.{losing, found, begins-again}
 use Rattle.driving.specs.Ran.{Ran, point}
 use Rattle.driving.specs.Endings.{ending, steppedAt}
-use Rattle.driving.specs.Pools.{CallRan}
+use Rattle.driving.specs.Pools.{PoolRan, CallRan}
 use Rattle.driving.specs.declared.Ended.the-variants.{On, Ends}
 use Rattle.driving.specs.declared.Stepped.{Stepped}
-use Rattle.driving.proofs.Ran.{next, stop, gave}
+use Rattle.driving.proofs.Ran.{next, stop, gave, looked}
 use Rattle.driving.proofs.Holds.{holds-ran}
 use Rattle.cleanup.specs.Cleaning.{Cleanable, CleansUp}
 use Rattle.cleanup.specs.declared.CleanedUp.{CleanedUp}
@@ -36,7 +38,7 @@ use Rattle.malloc_steps.specs.Mallocking.{Mallocable, Handable, HandsOut
 use Rattle.malloc_steps.proofs.Rooms.{size, fitting}
 
 -- the pool `p`, with these tables
-abbrev pub with-tables : FreeRegions → Zombies → Holes → Pool → Pool
+abbrev with-tables : FreeRegions → Zombies → Holes → Pool → Pool
 with-tables f z h p =
     record {
       state = p .state;
@@ -51,37 +53,61 @@ with-tables f z h p =
       roots = p .roots;
     }
 
+-- the pool `p`, with these free regions
+abbrev pub with-free : FreeRegions → Pool → Pool
+with-free f p = with-tables f (p .zombies) (p .holes) p
+
+-- Cleanup went on, with `k` driver calls, and left the pool `q`.
+pub record Cleaned (xs : List ℕ) (p : Pool) (l : List ℕ) (q : Pool) (k : ℕ) (m : List ℕ) : Type 0 where
+  pub walked : PoolRan cleanup 256 xs p 0 l (on tt) q k m
+  pub counter : q .counter ≡ p .counter
+  pub long : length m ≡ length l
+
+pub cleaned-as : {xs : List ℕ} {p : Pool} {l : List ℕ} {q q′ : Pool} {k k′ : ℕ} {m m′ : List ℕ} → m′ ≡ m → q′ ≡ q → k′ ≡ k →
+    Cleaned xs p l q k m → Cleaned xs p l q′ k′ m′
+cleaned-as e f g w = rw (e, f, g) w
+
 module _ {n : ℕ} {p : Pool} (g : Mallocable n p) where
   pub cleanable : Cleanable (p .zombies) (p .holes)
   unfolding tablesOf
   cleanable = record { zombies = g .tables .zombies; holes = g .tables .holes; lost = g .lost; around = tablesOf p; kept = g .asked .0 }
 
-  pub fittable : Fittable (p .free)
-  unfolding tablesOf
-  fittable = record { free = g .tables .free; rises = g .asked .0 .sound .freeRises }
+  -- there are no zombies: nothing is walked
+  pub none-asked : (xs l : List ℕ) → p .zombies .count ≤ 0 → Cleaned xs p l p 0 l
+  unfolding cleanup tablesOf
+  none-asked xs l h =
+      let e : length (zombiesOf (p .zombies)) ≡ 0 = omega (arith, h, zombies-count (p .zombies) (g .tables .zombies)) in
+      record {
+        walked = record { ran = next _ looked (rw e gave); kept = g .tables; state = refl; most = omega arith };
+        counter = refl;
+        long = refl;
+      }
 
   -- the zombies were asked
   module _ (s : ℕ) {xs l : List ℕ} {c : CleanedUp} {m : List ℕ} (w : CleansUp xs (p .zombies) (p .holes) 0 l c m) where
     abbrev cleaned : Pool
     cleaned = with-tables (p .free) (c .zombies) (c .holes) p
 
-    cleaned-ran : Ran cleanup xs (point 0 (tablesOf p) l) (ending (c .ended)) (point (c .made) (tablesOf cleaned) m)
+    walked : PoolRan cleanup 256 xs p 0 l (ending (c .ended)) cleaned (c .made) m
     unfolding tablesOf
-    cleaned-ran = w .ran (tablesOf p)
-
-    kept-cleaned : KeptPool cleaned
-    kept-cleaned =
+    walked =
         record {
-          free = g .tables .free;
-          live = g .tables .live;
-          holes = w .holes;
-          zombies = w .zombies;
-          pages = g .tables .pages;
-          roots = g .tables .roots;
+          ran = w .ran (tablesOf p);
+          kept =
+              record {
+                free = g .tables .free;
+                live = g .tables .live;
+                holes = w .holes;
+                zombies = w .zombies;
+                pages = g .tables .pages;
+                roots = g .tables .roots;
+              };
+          state = refl;
+          most = omega (arith, w .most, g .tables .zombies .most);
         }
 
-    pub cleanup-made : c .made ≤ 256
-    cleanup-made = omega (arith, w .most, g .tables .zombies .most)
+    pub all-asked : c .ended ≡ On → length m ≡ length l → Cleaned xs p l cleaned (c .made) m
+    all-asked e h = record { walked = rw e at walked; counter = refl; long = h }
 
     pub cleanup-stops : {o : Outcome} → c .ended ≡ Ends o → CallRan (mallocSteps n s) 1925 xs p l (steppedAt cleaned (c .ended) (c .made)) m
     unfolding mallocSteps
@@ -89,103 +115,105 @@ module _ {n : ℕ} {p : Pool} (g : Mallocable n p) where
         rw e (record {
           ending = ends o;
           outcome = refl;
-          walked = record { ran = stop _ (rw e at cleaned-ran); kept = kept-cleaned; state = refl; most = omega (arith, cleanup-made) };
+          walked =
+              record { ran = stop _ (rw e at (walked .ran)); kept = walked .kept; state = refl; most = omega (arith, walked .most) };
         })
 
-    module _ (e : c .ended ≡ On) where
-      cleaned-on : Ran cleanup xs (point 0 (tablesOf p) l) (on tt) (point (c .made) (tablesOf cleaned) m)
-      cleaned-on = rw e at cleaned-ran
+  -- cleanup went on
+  module _ (s : ℕ) {xs l : List ℕ} {q : Pool} {k : ℕ} {m : List ℕ} (w : Cleaned xs p l q k m) where
+    cleaned-fitting : Fitting (g .lost) (p .page) (freeBytes p) 127 (tablesOf q)
+    cleaned-fitting = holds-ran (cleans-up (g .lost) (p .page) (freeBytes p) 127) (w .walked .ran) (fitting g)
 
-      cleaned-fitting : Fitting (g .lost) (p .page) (freeBytes p) 127 (tablesOf cleaned)
-      cleaned-fitting = holds-ran (cleans-up (g .lost) (p .page) (freeBytes p) 127) cleaned-on (fitting g)
+    pub fittable : Fittable (q .free)
+    unfolding tablesOf
+    fittable = record { free = w .walked .kept .free; rises = cleaned-fitting .0 .sound .freeRises }
 
-      -- a fit was looked for
-      module _ {b : Fitted} {j : List ℕ} (v : Fits (fit n s) xs (p .free) (c .made) m b j) where
-        abbrev left : Pool
-        left = with-tables (b .free) (c .zombies) (c .holes) p
+    -- a fit was looked for
+    module _ {b : Fitted} {j : List ℕ} (v : Fits (fit n s) xs (q .free) k m b j) where
+      abbrev left : Pool
+      left = with-free (b .free) q
 
-        fit-ran : Ran (fit n s) xs (point (c .made) (tablesOf cleaned) m) (fitEnding b) (point (b .made) (tablesOf left) j)
-        unfolding tablesOf
-        fit-ran = v .ran (tablesOf cleaned)
+      fit-ran : Ran (fit n s) xs (point k (tablesOf q) m) (fitEnding b) (point (b .made) (tablesOf left) j)
+      unfolding tablesOf
+      fit-ran = v .ran (tablesOf q)
 
-        kept-left : KeptPool left
-        kept-left =
-            record {
-              free = v .free;
-              live = g .tables .live;
-              holes = w .holes;
-              zombies = w .zombies;
-              pages = g .tables .pages;
-              roots = g .tables .roots;
-            }
+      kept-left : KeptPool left
+      kept-left =
+          let t = w .walked .kept in
+          record { free = v .free; live = t .live; holes = t .holes; zombies = t .zombies; pages = t .pages; roots = t .roots }
 
-        pub fit-made : b .made ≤ 384
-        fit-made = omega (arith, v .most, cleanup-made, g .tables .free .most)
+      pub fit-made : b .made ≤ 384
+      fit-made = omega (arith, v .most, w .walked .most, w .walked .kept .free .most)
 
-        pub fit-stops : {o : Outcome} → b .ended ≡ Ends o → CallRan (mallocSteps n s) 1925 xs p l (steppedAt left (b .ended) (b .made)) j
-        unfolding mallocSteps
-        fit-stops {o} h =
-            rw h (record {
-              ending = ends o;
-              outcome = refl;
-              walked =
-                  record { ran = next _ cleaned-on (stop _ (rw h at fit-ran)); kept = kept-left; state = refl; most = omega (arith, fit-made) };
-            })
-
-        module _ (h : b .ended ≡ On) where
-          fit-on : (o : Option FreeRegion) → fitOf (b .fit) ≡ o →
-              Ran (fit n s) xs (point (c .made) (tablesOf cleaned) m) (on o) (point (b .made) (tablesOf left) j)
-          fit-on o q = rw (h, q) at fit-ran
-
-          -- nothing fits
-          module _ (q : fitOf (b .fit) ≡ none) where
-            pub still-mallocable : Mallocable n left
-            still-mallocable =
+      pub fit-stops : {o : Outcome} → b .ended ≡ Ends o → CallRan (mallocSteps n s) 1925 xs p l (steppedAt left (b .ended) (b .made)) j
+      unfolding mallocSteps
+      fit-stops {o} h =
+          rw h (record {
+            ending = ends o;
+            outcome = refl;
+            walked =
                 record {
-                  tables = kept-left;
-                  ids = g .ids;
-                  lost = g .lost;
-                  asked =
-                      begins-again (g .lost) (p .page) (freeBytes p) n (tablesOf left) (size g)
-                      (holds-ran (fits (g .lost) (p .page) (freeBytes p) 127 n s) (fit-on none q) cleaned-fitting);
-                }
+                  ran = next _ (w .walked .ran) (stop _ (rw h at fit-ran));
+                  kept = kept-left;
+                  state = w .walked .state;
+                  most = omega (arith, fit-made);
+                };
+          })
 
-            pub roomed-out : (x : Stepped) (i : List ℕ) → RoomsOut n s xs left (b .made) j x i → CallRan (mallocSteps n s) 1925 xs p l x i
-            unfolding mallocSteps
-            roomed-out x i y =
-                record {
-                  ending = y .ending;
-                  outcome = y .outcome;
-                  walked =
-                      record {
-                        ran = next _ cleaned-on (next _ (fit-on none q) (y .walked .ran));
-                        kept = y .walked .kept;
-                        state = y .walked .state;
-                        most = omega (arith, y .walked .most, fit-made);
-                      };
-                }
+      module _ (h : b .ended ≡ On) where
+        fit-on : (o : Option FreeRegion) → fitOf (b .fit) ≡ o →
+            Ran (fit n s) xs (point k (tablesOf q) m) (on o) (point (b .made) (tablesOf left) j)
+        fit-on o e = rw (h, e) at fit-ran
 
-          -- `r` fits
-          module _ (r : FreeRegion) (q : fitOf (b .fit) ≡ some r) where
-            pub fit-handable : Handable n r left
-            fit-handable =
-                let d =
-                found (g .lost) (p .page) (freeBytes p) n s (size g) r (tablesOf left)
-                (holds-ran (fits (g .lost) (p .page) (freeBytes p) 127 n s) (fit-on (some r) q) cleaned-fitting) in
-                record { tables = kept-left; lost = losing (g .lost) (d .0); due = d .1 .1 }
+        -- nothing fits
+        module _ (e : fitOf (b .fit) ≡ none) where
+          pub still-mallocable : Mallocable n left
+          still-mallocable =
+              record {
+                tables = kept-left;
+                ids = rw (w .counter) (g .ids);
+                lost = g .lost;
+                asked =
+                    begins-again (g .lost) (p .page) (freeBytes p) n (tablesOf left) (size g)
+                    (holds-ran (fits (g .lost) (p .page) (freeBytes p) 127 n s) (fit-on none e) cleaned-fitting);
+              }
 
-            pub fit-handed : (x : Stepped) → HandsOut n s r left (b .made) x → CallRan (mallocSteps n s) 1925 xs p l x j
-            unfolding mallocSteps orRoom
-            fit-handed x y =
-                let z = y .walked xs j in
-                record {
-                  ending = on (x .outcome);
-                  outcome = refl;
-                  walked =
-                      record {
-                        ran = next _ cleaned-on (next _ (fit-on (some r) q) (next _ gave (z .ran)));
-                        kept = z .kept;
-                        state = z .state;
-                        most = omega (arith, z .most, fit-made);
-                      };
-                }
+          pub roomed-out : (x : Stepped) (i : List ℕ) → RoomsOut n s xs left (b .made) j x i → CallRan (mallocSteps n s) 1925 xs p l x i
+          unfolding mallocSteps
+          roomed-out x i y =
+              record {
+                ending = y .ending;
+                outcome = y .outcome;
+                walked =
+                    record {
+                      ran = next _ (w .walked .ran) (next _ (fit-on none e) (y .walked .ran));
+                      kept = y .walked .kept;
+                      state = y .walked .state ∙ w .walked .state;
+                      most = omega (arith, y .walked .most, fit-made);
+                    };
+              }
+
+        -- `r` fits
+        module _ (r : FreeRegion) (e : fitOf (b .fit) ≡ some r) where
+          pub fit-handable : Handable n r left
+          fit-handable =
+              let d =
+              found (g .lost) (p .page) (freeBytes p) n s (size g) r (tablesOf left)
+              (holds-ran (fits (g .lost) (p .page) (freeBytes p) 127 n s) (fit-on (some r) e) cleaned-fitting) in
+              record { tables = kept-left; lost = losing (g .lost) (d .0); due = d .1 .1 }
+
+          pub fit-handed : (x : Stepped) → HandsOut n s r left (b .made) x → CallRan (mallocSteps n s) 1925 xs p l x j
+          unfolding mallocSteps orRoom
+          fit-handed x y =
+              let z = y .walked xs j in
+              record {
+                ending = on (x .outcome);
+                outcome = refl;
+                walked =
+                    record {
+                      ran = next _ (w .walked .ran) (next _ (fit-on (some r) e) (next _ gave (z .ran)));
+                      kept = z .kept;
+                      state = z .state ∙ w .walked .state;
+                      most = omega (arith, z .most, fit-made);
+                    };
+              }

@@ -73,16 +73,20 @@ pub fn malloc_steps(
     ensures { λ r. ⌜ CallRan (mallocSteps bytes stream) 1925 (now (answers .entry)) pool (now (log .entry)) r (now (log .exit)) ⌝ }
 {
     let mut q = pool;
-    let cleaned = cleanup(q.zombies, q.holes, answers, log, 0);
-    let zombies = cleaned.zombies;
-    let holes = cleaned.holes;
-    q.zombies = zombies;
-    q.holes = holes;
-    let cleaned_ended = cleaned.ended;
-    let Ended::On = cleaned_ended else {
-        return stepped_at(q, cleaned_ended, cleaned.made);
-    };
-    let fitted = fit(q.free, bytes, stream, answers, log, cleaned.made);
+    let mut n = 0;
+    if 0 < q.zombies.count {
+        let cleaned = cleanup(q.zombies, q.holes, answers, log, 0);
+        let zombies = cleaned.zombies;
+        let holes = cleaned.holes;
+        q.zombies = zombies;
+        q.holes = holes;
+        n = cleaned.made;
+        let cleaned_ended = cleaned.ended;
+        let Ended::On = cleaned_ended else {
+            return stepped_at(q, cleaned_ended, n);
+        };
+    }
+    let fitted = fit(q.free, bytes, stream, answers, log, n);
     let free = fitted.free;
     q.free = free;
     let fitted_ended = fitted.ended;

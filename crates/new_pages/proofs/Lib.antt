@@ -4,3 +4,4 @@ pub mod Counted
 pub mod Unmaking
 pub mod Making
 pub mod Answers
+pub mod Placed

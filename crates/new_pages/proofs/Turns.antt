@@ -5,15 +5,17 @@ use mathlib.Core.List.{List}
 use Prim.Native.Nat.{ℕ, suc, _+_, _-_, _<_}
 use native.Mathlib.Omega.{arith}
 use borrow.Author.Tests.{eq-eqb, ne-eqb}
+use Rattle.lists.specs.Order.{put}
 use Rattle.words.specs.declared.Answer.{Answer}
 use Rattle.words.specs.declared.Answer.the-variants.{Done, Failed}
+use Rattle.tables.specs.Values.{page, withPages}
 use Rattle.tables.specs.Steps.{Ending, on, ends}
-use Rattle.tables.specs.Driver.{create}
-use Rattle.tables.specs.NewPages.{Room, rollBack, isActive, created, mapPage, makePages}
+use Rattle.tables.specs.Driver.{create, must, map}
+use Rattle.tables.specs.NewPages.{Room, at, rollBack, isActive, created, mapPage, makePages}
 use Rattle.tables.specs.declared.Outcome.{Outcome}
 use Rattle.tables.specs.declared.Outcome.the-variants.{DriverFailed, Incredible}
-use Rattle.driving.specs.Ran.{Point, Ran}
-use Rattle.driving.proofs.Ran.{gave, ended, looked, taken, passed, next, stop}
+use Rattle.driving.specs.Ran.{Point, point, Ran}
+use Rattle.driving.proofs.Ran.{gave, ended, looked, taken, passed, next, stop, changed}
 
 pub one-more : (n : ℕ) → 0 < n → n ≡ suc (n - 1)
 one-more n h = omega arith
@@ -54,3 +56,14 @@ module _ {xs : List ℕ} {s : Point} (p n : ℕ) (o : Room) (a : ℕ) (q : s .ta
 pub checked : {xs : List ℕ} {u : Point} (o : Room) (a g : ℕ) → isActive g (u .tables .pages) ≡ false → Ran (created o a (Done g)) xs u (on tt) u
 unfolding created
 checked o a g e = next _ looked (next _ gave (next _ gave (passed _ e gave)))
+
+-- a page to map, by how that goes
+module _ {xs : List ℕ} {s u : Point} (a h : ℕ) where
+  pub page-unmapped : {f : Outcome} → Ran (must (map a h)) xs s (ends f) u → Ran (mapPage a h) xs s (ends f) u
+  unfolding mapPage
+  page-unmapped r = stop _ r
+
+  pub page-mapped : {e : Ending (Unit {0})} → e ≡ on tt → Ran (must (map a h)) xs s e u →
+      Ran (mapPage a h) xs s (on tt) (point (u .made) (withPages (put at (page a h) (u .tables .pages)) (u .tables)) (u .log))
+  unfolding mapPage
+  page-mapped q r = next _ (rw q at r) (changed _)

@@ -6,12 +6,10 @@ use Prim.Native.Nat.{ℕ, _+_, _*_, _≤_, _<_, _^_}
 use lib.Dec.{leb, ltb}
 use lib.ListN.{length}
 use Rattle.lists.specs.Order.{Rises}
-use Rattle.words.specs.declared.Address.{Address}
-use Rattle.words.specs.declared.Handle.{Handle}
 use Rattle.tables.specs.Values.{Tables, page, holesOf, pagesOf, withHoles, withPages}
 use Rattle.tables.specs.Kept.{KeptHoles, KeptPages}
 use Rattle.tables.specs.InsertHole.{Apart, insertHole}
-use Rattle.tables.specs.NewPages.{Room as Taken, at, unmake, newPages, rollBack, mapPage, makePages}
+use Rattle.tables.specs.NewPages.{Room as Taken, at, unmake, newPages, rollBack, makePages}
 use Rattle.tables.specs.declared.Page.{Page}
 use Rattle.tables.specs.declared.Pages.{Pages}
 use Rattle.tables.specs.declared.Holes.{Holes}
@@ -52,18 +50,6 @@ pub record Unmakes (q : Page) (page : ℕ) (xs : List ℕ) (g : Pages) (k : ℕ)
   pub pages : KeptPages (r .pages)
   pub rises : Rises at 0 (pagesOf (r .pages))
   pub most : r .made ≤ k + 2
-
--- What `map_page` needs: room for one page and one record.
-pub record Mappable (g : Pages) (k : ℕ) (l : List ℕ) : Type 0 where
-  pub pages : KeptPages g
-  pub room : g .count < 256
-  pub log : 4 * (k + 1) ≤ length l
-
-pub record MapsPage (a : Address) (h : Handle) (xs : List ℕ) (g : Pages) (k : ℕ) (l : List ℕ) (r : Paged) (m : List ℕ) : Type 0 where
-  pub ran : (t : Tables) →
-      Ran (mapPage (a .0) (h .0)) xs (point k (withPages (pagesOf g) t) l) (ending (r .ended)) (point (r .made) (withPages (pagesOf (r .pages)) t) m)
-  pub pages : KeptPages (r .pages)
-  pub most : r .made ≡ k + 1
 
 -- What `roll_back` needs: both tables in order, room for the range among the holes, and for two records for each new page.
 pub record Returnable (g : Pages) (h : Holes) (o : Room) (a k : ℕ) (l : List ℕ) : Type 0 where

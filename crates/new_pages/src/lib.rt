@@ -1,12 +1,11 @@
 // The missing pages of a request: each is created and mapped, or all are taken back. Each function walks its rule.
 ghost use mathlib.Core.Path.{_≡_};
-ghost use Rattle.new_pages.specs.Promises.{isNew, stoppedAt, Unmakable, Unmakes, Mappable, MapsPage, Returnable, RollsBack, Ready, MakesPages};
+ghost use Rattle.new_pages.specs.Promises.{isNew, stoppedAt, Unmakable, Unmakes, Returnable, RollsBack, Ready, MakesPages};
 use driving::Ended;
 use driving::create;
 use driving::must_tell;
 use driving::try_tell;
 use entries::pages::is_active;
-use entries::pages::put_page;
 use entries::pages::without_page;
 use holes::put_back;
 use tables::Holes;
@@ -120,36 +119,6 @@ fn roll_back(
     }
 }
 
-// Map a page, which is then active.
-pub fn map_page(
-    pages: Pages,
-    start: Address,
-    handle: Handle,
-    answers: &[u64],
-    log: &mut [u64],
-    made: usize,
-) -> Paged
-    requires { ⌜ Mappable pages made (now log) ⌝ }
-    ensures { λ r. ⌜ MapsPage start handle (now (answers .entry)) pages made (now (log .entry)) r (now (log .exit)) ⌝ }
-{
-    let mut n = made;
-    let mapped = must_tell(answers, log, n, Word::Map, start.0, handle.0);
-    n += 1;
-    let Ended::On = mapped else {
-        return Paged {
-            pages,
-            ended: mapped,
-            made: n,
-        };
-    };
-    let more = put_page(pages, start, handle);
-    Paged {
-        pages: more,
-        ended: Ended::On,
-        made: n,
-    }
-}
-
 // The call ends with an outcome, both tables as they are.
 fn stopped(pages: Pages, holes: Holes, outcome: Outcome, made: usize) -> PagesMade
     ensures { λ r. ⌜ r ≡ stoppedAt pages holes outcome made ⌝ }
@@ -162,7 +131,7 @@ fn stopped(pages: Pages, holes: Holes, outcome: Outcome, made: usize) -> PagesMa
     }
 }
 
-// Per missing page create, map.
+// Per missing page create, map. The page is put in its place here, those not below it moved up: a function would be passed the table in and out.
 pub fn make_pages(
     pages: Pages,
     holes: Holes,
@@ -195,18 +164,31 @@ pub fn make_pages(
         if is_active(active, Handle(handle)) {
             return stopped(active, holes, Outcome::Incredible, n);
         }
-        let mapped = map_page(active, Address(at), Handle(handle), answers, log, n);
-        active = mapped.pages;
-        n = mapped.made;
-        let ended = mapped.ended;
-        let Ended::On = ended else {
+        let mapped = must_tell(answers, log, n, Word::Map, at, handle);
+        n += 1;
+        let Ended::On = mapped else {
             return PagesMade {
                 pages: active,
                 holes,
-                ended,
+                ended: mapped,
                 made: n,
             };
         };
+        let mut p = active.count;
+        while 0 < p {
+            let j = p - 1;
+            let below = active.cells[j];
+            if below.start.0 < at {
+                break;
+            }
+            active.cells[p] = below;
+            p = j;
+        }
+        active.cells[p] = Page {
+            start: Address(at),
+            handle: Handle(handle),
+        };
+        active.count += 1;
         at += page;
         left -= 1;
     }
