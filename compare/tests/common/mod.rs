@@ -1,6 +1,8 @@
 //! Running the programs, and the recorded sessions.
 #![allow(dead_code, reason = "each test takes what it needs")]
 
+pub mod judging;
+
 use std::{
     fs,
     io::Write,
