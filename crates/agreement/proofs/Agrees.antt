@@ -1,4 +1,4 @@
--- The relation carried over changes: of tables that only hold the ranges elsewhere, of the counter when an id is recorded. Assumes nothing.
+-- The relation carried over changes: of tables that only hold the ranges elsewhere, of the counter when an id is recorded, of the judge's live buffers. Assumes nothing.
 use mathlib.Core.Path.{_≡_, refl, ap, _∙_}
 use mathlib.Core.List.{List}
 use Prim.Native.Nat.{ℕ, _+_, _%_}
@@ -7,10 +7,10 @@ use Rattle.tables.specs.Values.{Tables, withHoles, withCounter}
 use Rattle.tables.specs.declared.LiveBuffer.{LiveBuffer}
 use Rattle.tables.specs.declared.Hole.{Hole}
 use Rattle.keeping.specs.Cover.{coverFree, coverLive, coverZombies}
-use Rattle.judging.specs.Rules.{Judge}
-use Rattle.judging.specs.Verdict.{withLast}
+use Rattle.judging.specs.Rules.{Live, Judge}
+use Rattle.judging.specs.Verdict.{withLive, withLast}
 use Rattle.judging.specs.declared.Run.{Run}
-use Rattle.agreement.specs.Agrees.{Agrees}
+use Rattle.agreement.specs.Agrees.{SameBy, buffer, Agrees}
 use Rattle.agreement.proofs.Meets.{last-next}
 
 -- how often the free, live and zombie ranges hold an address: there the judge has a page mapped
@@ -74,4 +74,22 @@ agrees-counted {t = t} g =
       owned = g .owned;
       buffers = g .buffers;
       last = rw (last-next (t .counter));
+    }
+
+-- the judge knows of other live buffers
+pub agrees-buffers : {run : Run} {new : ℕ → ℕ} {spare : List ℕ} {live live′ : List LiveBuffer} {t : Tables} {s : Judge} (bs : List Live) →
+    Agrees run new spare live t s → SameBy buffer bs live′ → Agrees run new spare live′ t (withLive s bs)
+agrees-buffers bs g same =
+    record {
+      runs = g .runs;
+      page = g .page;
+      va = g .va;
+      reservations = g .reservations;
+      held = g .held;
+      aligned = g .aligned;
+      mapped = g .mapped;
+      active = g .active;
+      owned = g .owned;
+      buffers = same;
+      last = g .last;
     }

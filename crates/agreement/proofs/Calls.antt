@@ -1,19 +1,19 @@
 -- Each call, from what stands before it to what stands after it: the judge accepts the call's line, its records and its result. Assumes nothing.
 use mathlib.Core.Path.{_≡_, refl, ap, sym, _∙_, subst}
 use mathlib.Core.Bool.{Bool, true, false, cond, _||_, not, false≢true}
-use mathlib.Core.List.{[], _∷_}
+use mathlib.Core.List.{[], _∷_, map}
 use Prim.Native.Nat.{ℕ, _^_}
 use lib.Dec.{ltb, leb, eqb}
 use Rattle.lists.proofs.Tests.{neither}
 use Rattle.tables.specs.Values.{Tables, opened, closed, stopped, poolOf, atEntry}
 use Rattle.tables.specs.Outcomes.{numbers, is}
-use Rattle.tables.specs.Steps.{on}
+use Rattle.tables.specs.Steps.{Went}
 use Rattle.tables.specs.WellFormed.{wellFormed}
-use Rattle.tables.specs.HandsBack.{Reply, refused, poolAfter, admitted}
+use Rattle.tables.specs.HandsBack.{Reply, refused, outcomeOf, poolAfter, finished, admitted}
 use Rattle.tables.specs.declared.Pool.{Pool}
 use Rattle.tables.specs.declared.Outcome.{Outcome}
 use Rattle.tables.specs.declared.Outcome.the-variants.{PoolClosed, PoolStopped, NotWellFormed, ShortLog, IdsSpent}
-use Rattle.trace.specs.Kinds.{resultLine}
+use Rattle.trace.specs.Kinds.{ofRecord, resultLine}
 use Rattle.keeping.specs.Sound.{Left}
 use Rattle.keeping.proofs.Kept.{left-by}
 use Rattle.keeping.proofs.WellFormedLeaves.{read-back, well-formed}
@@ -25,7 +25,7 @@ use Rattle.agreement.specs.Runs as Runs
 use Rattle.agreement.specs.Runs.{lineOf, entry}
 use Rattle.agreement.specs.Agrees.{Inside, Ended}
 use Rattle.agreement.specs.Judges.{next, Reach, Fair, addresses, excused}
-use Rattle.agreement.proofs.Entries.{step-result}
+use Rattle.agreement.proofs.Entries.{step-result, fair-records, reach-entry}
 use Rattle.agreement.proofs.Standing.{
   Stands,
   Standing,
@@ -35,7 +35,6 @@ use Rattle.agreement.proofs.Standing.{
   step-call,
   agrees-run,
   inside-calling,
-  agrees-calling,
   result-read,
   refused-read,
 }
@@ -108,3 +107,16 @@ ended-read c p s y o lost t over left e x =
       over = ap (λ (r : Run). r .over) run ∙ over;
       agrees = agrees-run _ (ap (λ (r : Run). r .page) run) (ap (λ (r : Run). r .va) run) (e .1);
     }))
+
+-- A call that went: its line leads into it, then its records and its result are read.
+pub finished-read : (c : Runs.Call) (p : Pool) (s : Judge) → Stands p s → (w : Went Outcome) →
+    (excused (outcomeOf (w .ending)) ≡ false → Fair (addresses (calling c s .mapped)) (map ofRecord (w .records)) →
+    Reach (calling c s) (map ofRecord (w .records)) (λ y. Reach y (resultOf (numbers (outcomeOf (w .ending))) ∷ []) (Standing (poolAfter p (w .tables) (outcomeOf (w .ending)))))) →
+    Read c p s (finished p w)
+unfolding finished
+finished-read c p s h w reads x fair =
+    let entered = step-call c s (h .opens) (h .waiting) in
+    let records = map ofRecord (w .records) in
+    let result = resultOf (numbers (outcomeOf (w .ending))) in
+    reach-entry s (calling c s) (lineOf c) entered records result (Standing (poolAfter p (w .tables) (outcomeOf (w .ending))))
+    (reads x (fair-records s (calling c s) (lineOf c) entered records result fair))

@@ -1,16 +1,14 @@
 -- Cleanup: a zombie's event was recorded, so it may be asked for; its pages are mapped and no live buffer lies over them, so they may be unmapped, and
 -- no other page goes with them. Assumes nothing.
 use mathlib.Core.Path.{_≡_, refl, ap, sym, _∙_, subst}
-use mathlib.Core.Logic.{inl, inr, ⊎-elim}
-use mathlib.Core.Bool.{true, false, cond, not}
-use mathlib.Core.List.{List, []}
+use mathlib.Core.Bool.{true, cond, not}
+use mathlib.Core.List.{[]}
 use Prim.Native.Nat.{ℕ, zero, suc, _+_, _-_, _≤_, _<_, _%_}
 use native.Mathlib.Omega.{arith}
-use borrow.Author.Tests.{le-leb, lt-leb, le-ltb}
 use lib.ListN.{length, getD}
-use Rattle.lists.specs.Tests.{Member, filter}
+use Rattle.lists.specs.Tests.{Member}
 use Rattle.lists.specs.Places.{swapOut}
-use Rattle.lists.proofs.Tests.{cases-lt, all-at, all-filter}
+use Rattle.lists.proofs.Tests.{all-at, all-filter}
 use Rattle.lists.proofs.Members.{all-members, member-all, filter-member, sum-member}
 use Rattle.lists.proofs.Swap.{sum-swapOut, all-swapOut, length-swapOut}
 use Rattle.words.specs.declared.Word.the-variants.{Unmap}
@@ -25,45 +23,19 @@ use Rattle.tables.specs.declared.Outcome.{Outcome}
 use Rattle.keeping.specs.Cover.{within, equal, coverZombies, pagesAt}
 use Rattle.keeping.specs.Sound.{none, WholeRange, Sound, Kept, Left}
 use Rattle.keeping.specs.Counts.{Few, Known}
-use Rattle.keeping.proofs.Cover.{within-in, within-out, equal-same}
-use Rattle.keeping.proofs.Counting.{count-dropped, count-kept}
+use Rattle.keeping.proofs.Cover.{within-in, equal-same}
 use Rattle.keeping.proofs.Sounds.{sound-once, sound-zombies, sound-hole}
 use Rattle.keeping.proofs.Cleanup.{cleans-up}
 use Rattle.judging.specs.Ranges.{inside}
-use Rattle.judging.specs.Rules.{Page, Judge, R4}
+use Rattle.judging.specs.Rules.{Judge, R4}
 use Rattle.judging.specs.Verdict.{recorded, ruled, unmapped}
 use Rattle.judging.specs.declared.Run.{Run}
-use Rattle.judging.proofs.Laws.{is-inside}
-use Rattle.agreement.specs.Agrees.{mapping, mappedAt, Serving, Agreeing}
+use Rattle.agreement.specs.Agrees.{mapping, Serving, Agreeing}
 use Rattle.agreement.specs.Judges.{Judges}
 use Rattle.agreement.proofs.Judges.{judges-from, judges-named, judges-and, judges-then, judges-give, judges-known, judges-change, judges-cond}
 use Rattle.agreement.proofs.Words.{Accepts, judges-try, judges-isComplete}
 use Rattle.agreement.proofs.Meets.{whole-mapped, none-live, agrees-inside, agrees-seen, agrees-asked}
-
--- the test of an address against a range
-outside-false : (a n x : ℕ) → within a n x ≡ 0 → inside a n x ≡ false
-outside-false a n x e =
-    ⊎-elim
-    (λ (p : x < a). rw (lt-leb a x p))
-    (λ (p : a ≤ x).
-    ⊎-elim (λ (q : x < a + n). absurd (omega (arith, within-in a n x p q))) (λ (q : a + n ≤ x). rw (le-leb a x p, le-ltb x (a + n) q)) (cases-lt x (a + n)))
-    (cases-lt x a)
-
--- Where a page is mapped once at most, and at each address of a range, unmapping the range takes away what the range covers.
-mapped-without : (a n : ℕ) (m : List Page) (x : ℕ) → mappedAt m x ≤ 1 → within a n x ≤ mappedAt m x →
-    mappedAt (filter (λ g. not (inside a n (g .at))) m) x + within a n x ≡ mappedAt m x
-mapped-without a n m x once le =
-    ⊎-elim
-    (λ (p : x < a). out (within-out a n x (inl p)))
-    (λ (p : a ≤ x). ⊎-elim (λ (q : x < a + n). into p q) (λ (q : a + n ≤ x). out (within-out a n x (inr q))) (cases-lt x (a + n)))
-    (cases-lt x a)
-  where
-    out : within a n x ≡ 0 → mappedAt (filter (λ g. not (inside a n (g .at))) m) x + within a n x ≡ mappedAt m x
-    out e = omega (arith, count-kept (λ (g : Page). g .at) (λ y. not (inside a n y)) x m (rw (outside-false a n x e)))
-
-    into : a ≤ x → x < a + n → mappedAt (filter (λ g. not (inside a n (g .at))) m) x + within a n x ≡ mappedAt m x
-    into p q =
-        omega (arith, within-in a n x p q, count-dropped (λ (g : Page). g .at) (λ y. not (inside a n y)) x m (rw (is-inside a n x p q)))
+use Rattle.agreement.proofs.Counted.{inside-none, mapped-without}
 
 module _ {run : Run} (serving : Serving run) (lost : ℕ → ℕ) where
   -- One zombie, at place `i` of the tables `u`.
@@ -110,7 +82,7 @@ module _ {run : Run} (serving : Serving run) (lost : ℕ → ℕ) where
         let e : x % u .page ≡ 0 = member-all _ q (u .pages) m (w .pages) .aligned in
         let some : 1 ≤ pagesAt (u .pages) x = omega (arith, sum-member (λ (k : Pool.Page). equal (k .start .0) x) q (u .pages) m, equal-same x) in
         let far : within a n x ≡ 0 = omega (arith, w .pagesMatch x e, sound-once w x, zombies x) in
-        filter-member (λ k. not (inside a n (k .at))) (mapping q) (v .mapped) (member-all _ q (u .pages) m (g .active)) (rw (outside-false a n x far))
+        filter-member (λ k. not (inside a n (k .at))) (mapping q) (v .mapped) (member-all _ q (u .pages) m (g .active)) (rw (inside-none a n x far))
 
     agrees-unmapped : Agreeing run none [] (withHoles (insertHole a n (u .holes)) left) (unmapped v a n)
     agrees-unmapped =

@@ -19,7 +19,7 @@ use Rattle.tables.specs.declared.LiveBuffer.{LiveBuffer}
 use Rattle.tables.specs.declared.Pool.{Pool}
 use Rattle.tables.specs.declared.Outcome.{Outcome}
 use Rattle.tables.specs.declared.Outcome.the-variants.{InvalidPointer}
-use Rattle.trace.specs.Kinds.{ofRecord, freeLine}
+use Rattle.trace.specs.Kinds.{ofRecord}
 use Rattle.trace.specs.declared.Line.{Line}
 use Rattle.keeping.specs.Sound.{Kept}
 use Rattle.judging.specs.Rules.{Judge}
@@ -33,9 +33,9 @@ use Rattle.agreement.specs.Agrees.{SameBy, buffer, Serving}
 use Rattle.agreement.specs.Judges.{Reach, Fair, addresses, excused, Reached}
 use Rattle.agreement.proofs.Same.{same-filter}
 use Rattle.agreement.proofs.Free.{Gone, meets-free, judges-freeSteps}
-use Rattle.agreement.proofs.Entries.{fair-records, reach-entry}
-use Rattle.agreement.proofs.Standing.{Stands, Standing, stands, calling, step-call, agrees-run, inside-calling, agrees-calling, refused-read}
-use Rattle.agreement.proofs.Calls.{Read, entry-tables, admitted-read, done-read}
+use Rattle.agreement.proofs.Agrees.{agrees-buffers}
+use Rattle.agreement.proofs.Standing.{Stands, Standing, stands, calling, agrees-run, inside-calling, agrees-calling, refused-read}
+use Rattle.agreement.proofs.Calls.{Read, entry-tables, admitted-read, done-read, finished-read}
 
 -- the first that passes a test passes it
 first-passes : {A : Type 0} (p : A → Bool) (x : A) (l : List A) → first p l ≡ some x → p x ≡ true
@@ -84,7 +84,6 @@ module _ (b : LiveBuffer) (s : Judge) (over : s .run .over ≡ false) where
 
     freed-stands : Stands (poolOf opened t) (freed (told y))
     freed-stands =
-        let g = gone-told .agrees in
         record {
           tables = t;
           lost = lost;
@@ -93,20 +92,7 @@ module _ (b : LiveBuffer) (s : Judge) (over : s .run .over ≡ false) where
           opens = ap (λ (r : Run). r .opened) same;
           waiting = refl;
           over = ap (λ (r : Run). r .over) same ∙ over;
-          agrees =
-              record {
-                runs = refl;
-                page = g .page;
-                va = g .va;
-                reservations = g .reservations;
-                held = g .held;
-                aligned = g .aligned;
-                mapped = g .mapped;
-                active = g .active;
-                owned = g .owned;
-                buffers = buffers;
-                last = g .last;
-              };
+          agrees = agrees-buffers (freed (told y) .live) (gone-told .agrees) buffers;
         }
 
     gone-read : (p : Pool) → Reach y (resultOf (numbers o) ∷ []) (Standing (poolAfter p t o))
@@ -126,22 +112,17 @@ module _ (p : Pool) (s : Judge) (h : Stands p s) where
   serving a = record { inside = inside-calling (frees a) s (h .over); keeps = λ z. refl }
 
   -- the steps, from the tables that the pool is read as
+  reached : (b : LiveBuffer) (xs : List ℕ) (w : Went Outcome) → w ≡ freeSteps b xs 0 (h .tables) → Member b (h .tables .live) → Fair (addresses (s .mapped)) (map ofRecord (w .records)) →
+      Reached (λ o t y. Kept (h .lost) t × Gone (calling (frees (b .start .0)) s .run) b o t y) (λ _ _ _. ⊥) (calling (frees (b .start .0)) s) (map ofRecord (w .records)) (w .tables) (w .ending)
+  reached b xs w e m =
+      subst (λ w. Fair (addresses (s .mapped)) (map ofRecord (w .records)) →
+      Reached (λ o t y. Kept (h .lost) t × Gone (calling (frees (b .start .0)) s .run) b o t y) (λ _ _ _. ⊥) (calling (frees (b .start .0)) s) (map ofRecord (w .records)) (w .tables) (w .ending)) (sym e)
+      (judges-freeSteps (serving (b .start .0)) (h .lost) b .reads xs 0 (h .tables) (calling (frees (b .start .0)) s) ((h .kept, m), agrees-calling (frees (b .start .0)) (h .agrees)))
+
   served : (b : LiveBuffer) (xs : List ℕ) (w : Went Outcome) → w ≡ freeSteps b xs 0 (h .tables) → Member b (h .tables .live) → Read (frees (b .start .0)) p s (finished p w)
-  unfolding finished
-  served b xs w e m x fair =
-      let a = b .start .0 in
-      let z = calling (frees a) s in
-      let read = step-call (frees a) s (h .opens) (h .waiting) in
-      let f = fair-records s z (freeLine a) read (map ofRecord (w .records)) (resultOf (numbers (outcomeOf (w .ending)))) fair in
-      reach-entry s z (freeLine a) read (map ofRecord (w .records)) (resultOf (numbers (outcomeOf (w .ending)))) (Standing (poolAfter p (w .tables) (outcomeOf (w .ending))))
-      (result-accepted b s (h .over) p (h .lost) (map ofRecord (w .records)) (w .tables) (w .ending) x (reached w e f))
-    where
-      reached : (w : Went Outcome) → w ≡ freeSteps b xs 0 (h .tables) → Fair (addresses (s .mapped)) (map ofRecord (w .records)) →
-          Reached (λ o t y. Kept (h .lost) t × Gone (calling (frees (b .start .0)) s .run) b o t y) (λ _ _ _. ⊥) (calling (frees (b .start .0)) s) (map ofRecord (w .records)) (w .tables) (w .ending)
-      reached w e f =
-          subst (λ w. Fair (addresses (s .mapped)) (map ofRecord (w .records)) →
-          Reached (λ o t y. Kept (h .lost) t × Gone (calling (frees (b .start .0)) s .run) b o t y) (λ _ _ _. ⊥) (calling (frees (b .start .0)) s) (map ofRecord (w .records)) (w .tables) (w .ending)) (sym e)
-          (λ f. judges-freeSteps (serving (b .start .0)) (h .lost) b .reads xs 0 (h .tables) (calling (frees (b .start .0)) s) ((h .kept, m), agrees-calling (frees (b .start .0)) (h .agrees)) f) f
+  served b xs w e m =
+      finished-read (frees (b .start .0)) p s h w (λ x f.
+      result-accepted b s (h .over) p (h .lost) (map ofRecord (w .records)) (w .tables) (w .ending) x (reached b xs w e m f))
 
   pub free-read : (a : ℕ) (xs : List ℕ) (log : ℕ) → Read (frees a) p s (free p a xs log)
   unfolding free freeFound

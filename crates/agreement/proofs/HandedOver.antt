@@ -1,9 +1,9 @@
 -- R7 of a malloc's result: the pages of the buffer are mapped, no live buffer lies over them, and no handle is under two of all these pages, since each
 -- is active and handles are distinct. Assumes nothing.
 use mathlib.Core.Path.{_≡_, refl, ap, sym, _∙_, subst}
-use mathlib.Core.Logic.{inl, inr, ⊎-elim}
+use mathlib.Core.Logic.{⊎-elim}
 use mathlib.Core.Bool.{Bool, true, false, _&&_, _||_, not}
-use mathlib.Core.List.{List, [], _∷_}
+use mathlib.Core.List.{List, []}
 use Prim.Native.Nat.{ℕ, _+_, _≤_, _<_, _%_}
 use native.Mathlib.Omega.{arith}
 use borrow.Author.Tests.{eq-eqb, eqb-true, eqb-false}
@@ -20,8 +20,7 @@ use Rattle.tables.specs.declared.Page as Pool
 use Rattle.tables.specs.declared.Outcome.{Outcome}
 use Rattle.keeping.specs.Cover.{within, equal, coverFree, coverLive}
 use Rattle.keeping.specs.Sound.{none, WholeRange, Sound}
-use Rattle.keeping.proofs.Cover.{within-in, equal-same, equal-positive}
-use Rattle.keeping.proofs.Counting.{keysAt}
+use Rattle.keeping.proofs.Cover.{within-in, equal-positive}
 use Rattle.keeping.proofs.Sounds.{sound-once}
 use Rattle.judging.specs.Ranges.{inside}
 use Rattle.judging.specs.Rules.{Page, Judge, wholePages, noneLive, inBuffers, alone, noHandleTwice, R7}
@@ -30,16 +29,8 @@ use Rattle.judging.proofs.Laws.{inside-is}
 use Rattle.agreement.specs.Agrees.{mapping, buffer, mappedAt, Agrees}
 use Rattle.agreement.proofs.Same.{same-any-back, any-is}
 use Rattle.agreement.proofs.Meets.{whole-mapped, none-live}
+use Rattle.agreement.proofs.Counted.{counted-once}
 use Rattle.agreement.proofs.HandOver.{Given}
-
--- what is counted once is one
-pub counted-once : {A : Type 0} (key : A → ℕ) (x y : A) (l : List A) → Member x l → Member y l → key x ≡ key y → keysAt key l (key x) ≤ 1 → x ≡ y
-counted-once key x y (z ∷ l) (inl e) (inl f) q h = e ∙ sym f
-counted-once key x y (z ∷ l) (inl e) (inr n) q h =
-    absurd (omega (arith, ap (λ a. equal (key a) (key x)) e, equal-same (key x), ap (λ a. equal a (key x)) q, sum-member (λ a. equal (key a) (key x)) y l n))
-counted-once key x y (z ∷ l) (inr m) (inl f) q h =
-    absurd (omega (arith, ap (λ a. equal (key a) (key x)) f, equal-same (key x), ap (λ a. equal a (key x)) q, sum-member (λ a. equal (key a) (key x)) x l m))
-counted-once key x y (z ∷ l) (inr m) (inr n) q h = counted-once key x y l m n q (omega arith)
 
 one-of : (x y z : Bool) → (x ≡ false → y ≡ true → z ≡ true → ⊥) → (x || not y || not z) ≡ true
 one-of true y z h = refl

@@ -3,6 +3,7 @@ pub mod Judges
 pub mod Words
 pub mod Same
 pub mod Meets
+pub mod Counted
 pub mod Agrees
 pub mod Handles
 pub mod Access

@@ -19,7 +19,7 @@ use Rattle.tables.specs.Malloc.{mallocSteps, mallocBy, malloc}
 use Rattle.tables.specs.declared.Pool.{Pool}
 use Rattle.tables.specs.declared.Outcome.{Outcome}
 use Rattle.tables.specs.declared.Outcome.the-variants.{BadSize, SpansFull}
-use Rattle.trace.specs.Kinds.{ofRecord, mallocLine}
+use Rattle.trace.specs.Kinds.{ofRecord}
 use Rattle.trace.specs.declared.Line.{Line}
 use Rattle.keeping.specs.Sound.{Whole, KeptBut}
 use Rattle.keeping.proofs.Malloc.{Asked}
@@ -37,9 +37,9 @@ use Rattle.agreement.proofs.Same.{same-length, same-put}
 use Rattle.agreement.proofs.HandOver.{Given}
 use Rattle.agreement.proofs.HandedOver.{meets-malloc}
 use Rattle.agreement.proofs.Malloc.{judges-mallocSteps}
-use Rattle.agreement.proofs.Entries.{fair-records, reach-entry}
-use Rattle.agreement.proofs.Standing.{Stands, Standing, stands, calling, step-call, agrees-run, inside-calling, agrees-calling, refused-read}
-use Rattle.agreement.proofs.Calls.{Read, entry-tables, admitted-read, done-read, ended-read}
+use Rattle.agreement.proofs.Agrees.{agrees-buffers}
+use Rattle.agreement.proofs.Standing.{Stands, Standing, stands, calling, agrees-run, inside-calling, agrees-calling, refused-read}
+use Rattle.agreement.proofs.Calls.{Read, entry-tables, admitted-read, done-read, ended-read, finished-read}
 
 module _ (n k : ℕ) (s : Judge) (over : s .run .over ≡ false) where
   abbrev in-call : Run
@@ -82,7 +82,6 @@ module _ (n k : ℕ) (s : Judge) (over : s .run .over ≡ false) where
 
     handed-stands : Stands (poolOf opened t) (handed (told y) a n)
     handed-stands =
-        let g = given-told .agrees in
         record {
           tables = t;
           lost = _;
@@ -91,20 +90,7 @@ module _ (n k : ℕ) (s : Judge) (over : s .run .over ≡ false) where
           opens = ap (λ (r : Run). r .opened) same;
           waiting = refl;
           over = ap (λ (r : Run). r .over) same ∙ over;
-          agrees =
-              record {
-                runs = refl;
-                page = g .page;
-                va = g .va;
-                reservations = g .reservations;
-                held = g .held;
-                aligned = g .aligned;
-                mapped = g .mapped;
-                active = g .active;
-                owned = g .owned;
-                buffers = buffers;
-                last = g .last;
-              };
+          agrees = agrees-buffers (handed (told y) a n .live) (given-told .agrees) buffers;
         }
 
     given-read : (p : Pool) → Reach y (resultOf (numbers o) ∷ []) (Standing (poolAfter p t o))
@@ -126,23 +112,17 @@ module _ (n k : ℕ) (p : Pool) (s : Judge) (h : Stands p s) where
   serving = record { inside = inside-calling (mallocs n k) s (h .over); keeps = λ z. refl }
 
   -- the steps, from the tables that the pool is read as
+  reached : (xs : List ℕ) (w : Went Outcome) → w ≡ mallocSteps n k xs 0 (h .tables) → Asked (h .lost) n (h .tables) → Fair (addresses (s .mapped)) (map ofRecord (w .records)) →
+      Reached (λ o t y. KeptBut (h .lost) t × Given (calling (mallocs n k) s .run) n k o t y) (Ends (calling (mallocs n k) s .run) (h .lost)) (calling (mallocs n k) s) (map ofRecord (w .records)) (w .tables) (w .ending)
+  reached xs w e asked =
+      subst (λ w. Fair (addresses (s .mapped)) (map ofRecord (w .records)) →
+      Reached (λ o t y. KeptBut (h .lost) t × Given (calling (mallocs n k) s .run) n k o t y) (Ends (calling (mallocs n k) s .run) (h .lost)) (calling (mallocs n k) s) (map ofRecord (w .records)) (w .tables) (w .ending)) (sym e)
+      (judges-mallocSteps serving (h .lost) n k .reads xs 0 (h .tables) (calling (mallocs n k) s) (asked, agrees-calling (mallocs n k) (h .agrees)))
+
   served : (xs : List ℕ) (w : Went Outcome) → w ≡ mallocSteps n k xs 0 (h .tables) → Asked (h .lost) n (h .tables) → Read (mallocs n k) p s (finished p w)
-  unfolding finished
-  served xs w e asked x fair =
-      let z = calling (mallocs n k) s in
-      let read = step-call (mallocs n k) s (h .opens) (h .waiting) in
-      let f = fair-records s z (mallocLine n k) read (map ofRecord (w .records)) (resultOf (numbers (outcomeOf (w .ending)))) fair in
-      reach-entry s z (mallocLine n k) read (map ofRecord (w .records)) (resultOf (numbers (outcomeOf (w .ending)))) (Standing (poolAfter p (w .tables) (outcomeOf (w .ending))))
-      (result-accepted n k s (h .over) p (h .lost) (map ofRecord (w .records)) (w .tables) (w .ending) x
-      (reached w e f))
-    where
-      reached : (w : Went Outcome) → w ≡ mallocSteps n k xs 0 (h .tables) → Fair (addresses (s .mapped)) (map ofRecord (w .records)) →
-          Reached (λ o t y. KeptBut (h .lost) t × Given (calling (mallocs n k) s .run) n k o t y) (Ends (calling (mallocs n k) s .run) (h .lost)) (calling (mallocs n k) s) (map ofRecord (w .records)) (w .tables) (w .ending)
-      reached w e f =
-          subst (λ w. Fair (addresses (s .mapped)) (map ofRecord (w .records)) →
-          Reached (λ o t y. KeptBut (h .lost) t × Given (calling (mallocs n k) s .run) n k o t y) (Ends (calling (mallocs n k) s .run) (h .lost)) (calling (mallocs n k) s) (map ofRecord (w .records)) (w .tables) (w .ending)) (sym e)
-          (λ f. judges-mallocSteps serving (h .lost) n k .reads xs 0 (h .tables) (calling (mallocs n k) s)
-          (asked, agrees-calling (mallocs n k) (h .agrees)) f) f
+  served xs w e asked =
+      finished-read (mallocs n k) p s h w (λ x f.
+      result-accepted n k s (h .over) p (h .lost) (map ofRecord (w .records)) (w .tables) (w .ending) x (reached xs w e asked f))
 
   pub malloc-read : (xs : List ℕ) (log : ℕ) → Read (mallocs n k) p s (malloc p n k xs log)
   unfolding mallocBy

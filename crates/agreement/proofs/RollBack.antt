@@ -7,7 +7,7 @@ use mathlib.Core.List.{List, [], _∷_}
 use Prim.Native.Nat.{ℕ, _+_, _-_, _≤_, _<_, _%_}
 use native.Mathlib.Omega.{arith}
 use native.Mathlib.Nat.{mod-self}
-use borrow.Author.Tests.{le-leb, lt-leb, lt-ltb, le-ltb, leb-true, ltb-true, ne-eqb, not-true}
+use borrow.Author.Tests.{le-leb, lt-leb, lt-ltb, le-ltb, leb-true, ltb-true, not-true}
 use lib.Dec.{leb, ltb}
 use Rattle.lists.specs.Tests.{All, Member}
 use Rattle.lists.specs.Order.{Rises, without}
@@ -33,7 +33,7 @@ use Rattle.keeping.proofs.Counting.{rises-once, count-kept, count-dropped}
 use Rattle.keeping.proofs.Sounds.{sound-once, sound-pages, sound-bare}
 use Rattle.keeping.proofs.NewPages.{PagesTo, rolls-back}
 use Rattle.judging.specs.Ranges.{inside}
-use Rattle.judging.specs.Rules.{Judge, Page, isUnder, R4, R5}
+use Rattle.judging.specs.Rules.{Judge, Page, R4, R5}
 use Rattle.judging.specs.Verdict.{recorded, ruled, unmapped, released}
 use Rattle.judging.specs.declared.Run.{Run}
 use Rattle.agreement.specs.Agrees.{mappedAt, heldAt, Serving, Agreeing, Ended, Ends}
@@ -42,6 +42,7 @@ use Rattle.agreement.proofs.Judges.{judges-from, judges-to, judges-and,
 use Rattle.agreement.proofs.Words.{Accepts, judges-try}
 use Rattle.agreement.proofs.Meets.{whole-mapped, none-live, held-some, aligned-below, agrees-inside, agrees-seen}
 use Rattle.agreement.proofs.Agrees.{spansAt, agrees-page, agrees-as, agrees-holes}
+use Rattle.agreement.proofs.Counted.{under-none}
 use Rattle.agreement.proofs.Handles.{inside-self, agrees-unmapped, agrees-released}
 
 -- no other mapped page has the handle of `g`
@@ -147,10 +148,6 @@ module _ {lost : ℕ → ℕ} {s n : ℕ} {g : Pool.Page} {m : List Pool.Page} {
             let f = member-filter (λ (p : Page). not (inside (at g) (t .page) (p .at))) q (z .mapped) i in
             let here : q .at ≡ at g = member-all _ q (z .mapped) (f .0) alone e in
             true≢false (sym (inside-self (t .page) (at g) (w .sound .page)) ∙ not-true (inside (at g) (t .page) (at g)) (rw here at (f .1)))
-
-under-none : (h : ℕ) (l : List Page) → All (λ q. q .handle ≡ h → ⊥) l → isUnder l h ≡ false
-under-none h [] a = refl
-under-none h (q ∷ l) a = rw (ne-eqb (q .handle) h (a .0), under-none h l (a .1))
 
 module _ {run : Run} (serving : Serving run) where
   -- Tables and judge while the new pages `m` are still to be taken out,
