@@ -1,8 +1,8 @@
--- Marks by remainder: a number whose place has no mark is none of those that left one. Assumes nothing.
+-- Marks by remainder: a number whose place has no mark is none of those that left one; one that is found among them is twice. Assumes nothing.
 use mathlib.Core.Path.{_≡_, refl, ap, _∙_}
-use mathlib.Core.Bool.{Bool, true, false, not}
+use mathlib.Core.Bool.{Bool, true, false, _&&_, not}
 use mathlib.Core.List.{List, [], _∷_}
-use Prim.Native.Nat.{ℕ, _+_, _-_, _≤_, _<_, _%_}
+use Prim.Native.Nat.{ℕ, zero, suc, _+_, _-_, _≤_, _<_, _%_}
 use native.Mathlib.Omega.{arith}
 use borrow.Author.Tests.{ne-eqb, eqb-true, eqb-false}
 use lib.Dec.{eqb}
@@ -48,3 +48,20 @@ marked-more m l i s n h e a =
     let k : i - 1 + 1 ≡ i = omega arith in
     let d : drop (i - 1) l ≡ x ∷ drop i l = turn-all l (i - 1) 0 (omega arith) ∙ ap (λ j. x ∷ drop j l) k in
     rw d (rw (e, a .0), (getD-set-same m (x % 1021) 1 0 h, marks-kept m (x % 1021) h (drop i l) (a .1)))
+
+-- a number that is twice among the last ones is twice
+among-last : (i : ℕ) (l : List ℕ) → distinct (drop i l) ≡ false → distinct l ≡ false
+among-last zero l e = e
+among-last (suc i) [] e = e
+among-last (suc i) (x ∷ l) e = rw (among-last i l e) (and-false (every (λ y. not (eqb x y)) l))
+  where
+    and-false : (b : Bool) → (b && false) ≡ false
+    and-false true = refl
+    and-false false = refl
+
+pub found-again : (l : List ℕ) (i : ℕ) → 0 < i → i ≤ length l → every (λ y. not (eqb (getD l (i - 1) 0) y)) (drop i l) ≡ false → distinct l ≡ false
+found-again l i s n e =
+    let x = getD l (i - 1) 0 in
+    let k : i - 1 + 1 ≡ i = omega arith in
+    let d : drop (i - 1) l ≡ x ∷ drop i l = turn-all l (i - 1) 0 (omega arith) ∙ ap (λ j. x ∷ drop j l) k in
+    among-last (i - 1) l (rw (d, e))

@@ -74,9 +74,9 @@ fn is_apart(mark: u8, x: u64, rest: &[u64]) -> bool
     differs(x, rest)
 }
 
-// Each number leaves a mark by its remainder, and only numbers with one remainder are compared: numbers of a driver seldom are.
+// No number twice. Each leaves a mark by its remainder, and only numbers with one remainder are compared: numbers of a driver seldom are.
 fn is_spread(numbers: &[u64]) -> bool
-    ensures { λ r. ⌜ (r ≡ true → distinct (now (numbers .entry)) ≡ true) ⌝ }
+    ensures { λ r. ⌜ r ≡ distinct (now (numbers .entry)) ⌝ }
 {
     let mut marks: [u8; 1021] = [0; 1021];
     let mut i = numbers.len();
@@ -93,23 +93,12 @@ fn is_spread(numbers: &[u64]) -> bool
     true
 }
 
-// No number twice. Numbers that rise, or are spread, are looked at once, others in pairs.
+// No number twice. Numbers that rise are looked at once, without marks.
 pub fn is_distinct(numbers: &[u64]) -> bool
     ensures { λ r. ⌜ r ≡ distinct (now (numbers .entry)) ⌝ }
 {
     if is_rising(numbers) {
         return true;
     }
-    if is_spread(numbers) {
-        return true;
-    }
-    let mut i = 0;
-    while i < numbers.len() {
-        let next = i + 1;
-        if !differs(numbers[i], &numbers[next..]) {
-            return false;
-        }
-        i = next;
-    }
-    true
+    is_spread(numbers)
 }

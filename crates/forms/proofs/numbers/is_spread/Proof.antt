@@ -1,17 +1,17 @@
 -- `forms::numbers::is_spread` meets its contract. The invariant: the numbers passed, from the end on, are distinct, and each has left its mark. Assumes
 -- nothing.
 use mathlib.Core.Path.{_≡_, sym, _∙_}
-use mathlib.Core.Bool.{true, not, false≢true}
+use mathlib.Core.Bool.{true, false, not}
 use mathlib.Core.List.{List}
 use Prim.Native.Nat.{ℕ, _-_, _≤_}
 use native.Mathlib.Omega.{arith}
 use borrow.Author.Needs.{needs}
-use borrow.Author.Tests.{not-false}
+use borrow.Author.Tests.{not-true, not-false}
 use lib.Dec.{eqb}
 use lib.ListN.{length, take, drop, getD, replicate, length-drop}
 use lib.Seq.{take-all}
 use Rattle.lists.specs.Tests.{every, distinct}
-use Rattle.forms.proofs.Marks.{Marked, marked-none, unmarked-apart, marked-more}
+use Rattle.forms.proofs.Marks.{Marked, marked-none, unmarked-apart, marked-more, found-again}
 use Rattle.forms.proofs.numbers.is_spread.Statement.{statement}
 use Rattle.forms.proofs.numbers.is_spread.Tie as tie
 
@@ -62,7 +62,12 @@ is-apart-requires c κs =
     λ z. rw (rest v) (unmarked-apart (v .before .loop .marks) (getD (list v) (i - 1) 0) (drop i (list v)) z (v .before .loop .inv .1 .1))
 
 returns : tie.Need-returns Inv-loop μ-loop
-returns c = λ e. absurd (false≢true e)
+returns c =
+    let v = c .before .before .before .before in
+    let l = list v in
+    let i = v .before .loop .i in
+    let e : every (λ y. not (eqb (getD l (i - 1) 0) y)) (take (length l - i) (drop i l)) ≡ false = sym (c .before .is-apart .ensures) ∙ not-true _ (c .if1 .taken) in
+    sym (found-again l i (omega arith) (omega arith) (rw (rest v) at e))
 
 array-write-marks : tie.Need-array-write-marks Inv-loop μ-loop
 array-write-marks c = search needs
@@ -82,7 +87,7 @@ returns-2 : tie.Need-returns-2 Inv-loop μ-loop
 returns-2 c =
     let i = c .before .loop .i in
     let z : i ≡ 0 = omega arith in
-    λ _. rw z at (c .before .loop .inv .1 .0)
+    sym (rw z at (c .before .loop .inv .1 .0))
 
 pub is-spread-spec : {M : Type 1} → statement M
 is-spread-spec =
