@@ -7,10 +7,12 @@
 //!                                           FOLDER/NAME.1, FOLDER/NAME.2 and so on
 
 mod count;
+mod floor;
 mod growth;
 mod kind;
 mod made;
 mod measure;
+mod measured;
 mod ours;
 mod rust;
 mod spent;
@@ -18,6 +20,7 @@ mod step;
 
 use crate::{
     count::{counted, replay},
+    floor::print_floor,
     growth::print_growth,
     measure::{clock, measure},
     spent::{print_heading, print_kinds},
@@ -40,8 +43,15 @@ fn print_times(paths: &[&str]) {
     println!("{} ns of each time are the clock's own", clock());
     print_heading("ns");
     let sessions: Vec<Vec<Step>> = paths.iter().map(|path| read(path)).collect();
-    for ((path, steps), spent) in paths.iter().zip(&sessions).zip(measure(&sessions)) {
-        print_kinds(name(path), steps, &spent);
+    let spent = measure(&sessions);
+    for ((path, steps), spent) in paths.iter().zip(&sessions).zip(&spent) {
+        print_kinds(name(path), steps, spent);
+    }
+    println!();
+    println!("what a pool by value costs a call that does nothing, beside the Rust's free:");
+    print_heading("ns");
+    for ((path, steps), spent) in paths.iter().zip(&sessions).zip(&spent) {
+        print_floor(name(path), steps, spent);
     }
 }
 

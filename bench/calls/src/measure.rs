@@ -34,13 +34,17 @@ pub fn measure(sessions: &[Vec<Step>]) -> Vec<Vec<Spent>> {
     best
 }
 
-/// A round's part of the replays. A short session's would be over in no time, so they go on for a
-/// while.
+/// A round's part of the replays.
 fn replay_often(steps: &[Step], best: &mut [Spent], check: bool) {
+    often(|at| replay(steps, best, check && at == 0));
+}
+
+/// A short session's replays would be over in no time, so they go on for a while.
+pub fn often(mut replay: impl FnMut(u64)) {
     let (replays, least) = effort();
     let (start, mut at) = (Instant::now(), 0);
     while at < replays.div_ceil(ROUNDS) || start.elapsed() < least {
-        replay(steps, best, check && at == 0);
+        replay(at);
         at += 1;
     }
 }
@@ -58,7 +62,7 @@ pub fn clock() -> u64 {
     (0..100_000).map(look).min().unwrap_or_default()
 }
 
-fn timed<T>(run: impl FnOnce() -> T) -> (u64, T) {
+pub fn timed<T>(run: impl FnOnce() -> T) -> (u64, T) {
     let start = Instant::now();
     let result = run();
     (start.elapsed().as_nanos() as u64, result)

@@ -3,6 +3,8 @@
 use caldarimpu::ffi::{self, Pool, LOG};
 use compare::session::{Answered, Call};
 
+use crate::measured;
+
 pub struct Ours {
     pool: Box<Pool>,
     answers: Vec<u64>,
@@ -46,6 +48,18 @@ impl Ours {
             second: reply.second,
             answer: reply.answer,
         }
+    }
+
+    /// The pool in and out.
+    pub fn pass(&mut self) {
+        *self.pool = measured::passed(&self.pool).pool;
+    }
+
+    /// The pool in, tested, and out.
+    pub fn test(&mut self) {
+        let passed = measured::tested(&self.pool);
+        assert!(passed.sound, "a call left a pool that is not well formed");
+        *self.pool = passed.pool;
     }
 
     /// The records of the last call: kind, first, second, code.

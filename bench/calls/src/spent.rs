@@ -32,13 +32,18 @@ pub fn print_kinds(name: &str, steps: &[Step], spent: &[Spent]) {
         kinds.entry(step.kind).or_default().push(*spent);
     }
     for (kind, spent) in kinds {
-        let calls = spent.len() as u64;
-        let mean = Spent {
-            ours: spent.iter().map(|spent| spent.ours).sum::<u64>() / calls,
-            rust: spent.iter().map(|spent| spent.rust).sum::<u64>() / calls,
-        };
-        let Spent { ours, rust } = mean;
-        let (ratio, kind) = (mean.ratio(), kind.name());
-        println!("{ratio:>7.1} {ours:>9} {rust:>9} {calls:>6}  {name:<8}  {kind}");
+        print_mean(name, kind.name(), &spent);
     }
+}
+
+/// The mean of some calls of a session.
+pub fn print_mean(session: &str, call: &str, spent: &[Spent]) {
+    let calls = spent.len() as u64;
+    let mean = Spent {
+        ours: spent.iter().map(|spent| spent.ours).sum::<u64>() / calls,
+        rust: spent.iter().map(|spent| spent.rust).sum::<u64>() / calls,
+    };
+    let Spent { ours, rust } = mean;
+    let ratio = mean.ratio();
+    println!("{ratio:>7.1} {ours:>9} {rust:>9} {calls:>6}  {session:<8}  {call}");
 }

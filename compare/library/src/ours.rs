@@ -1,11 +1,11 @@
 //! The library's pool on a card of its own, which answers as the Rust's does.
 
-use caldarimpu::{Code, Config, Driver, Happened, Pool, Refusal};
+use caldarimpu::{Answers, Code, Config, Happened, Pool, Refusal};
 use compare::{
     card::RandomCard,
     session::{Answered, Call, Outcome},
 };
-use original::driver::{Answers, Record, Word};
+use original::driver::{Answers as _, Record, Word};
 
 /// A random card as a driver. It notes its calls, and how the pool's call ended.
 pub struct Card {
@@ -39,82 +39,29 @@ impl Card {
     pub fn take_happened(&mut self) -> Option<Told> {
         self.happened.take()
     }
+}
 
-    /// One driver call, noted as document 01's table says.
-    fn lend(&mut self, word: Word, first: u64, second: u64) -> Result<u64, Code> {
-        let wanted = Record {
-            word,
-            first,
-            second,
-            code: 0,
-        };
+impl Answers for Card {
+    /// Notes the driver call as document 01's table says.
+    fn answer(&mut self, wanted: caldarimpu::Record) -> Result<u64, Code> {
+        let wanted = record_of(&wanted);
         let answer = self.card.lend(wanted);
-        let (first, second) = match word {
-            Word::Reserve | Word::Create if answer.code == 0 => (answer.value, second),
-            Word::Asked => (first, u64::from(answer.is_complete())),
-            _ => (first, second),
+        let (first, second) = match wanted.word {
+            Word::Reserve | Word::Create if answer.code == 0 => (answer.value, wanted.second),
+            Word::Asked => (wanted.first, u64::from(answer.is_complete())),
+            _ => (wanted.first, wanted.second),
         };
         let code = answer.code as u64;
         self.seen.push(Record {
-            word,
             first,
             second,
             code,
+            ..wanted
         });
         Code::new(code).map_or(Ok(answer.value), Err)
     }
 
-    fn make(&mut self, word: Word, first: u64, second: u64) -> Result<(), Code> {
-        self.lend(word, first, second).map(drop)
-    }
-}
-
-impl Driver for Card {
-    fn reserve(&mut self, va_size: u64) -> Result<u64, Code> {
-        self.lend(Word::Reserve, 0, va_size)
-    }
-
-    fn create(&mut self, page_size: u64) -> Result<u64, Code> {
-        self.lend(Word::Create, 0, page_size)
-    }
-
-    fn map(&mut self, address: u64, handle: u64) -> Result<(), Code> {
-        self.make(Word::Map, address, handle)
-    }
-
-    fn access(&mut self, address: u64, bytes: u64) -> Result<(), Code> {
-        self.make(Word::Access, address, bytes)
-    }
-
-    fn unmap(&mut self, address: u64, bytes: u64) -> Result<(), Code> {
-        self.make(Word::Unmap, address, bytes)
-    }
-
-    fn release(&mut self, handle: u64) -> Result<(), Code> {
-        self.make(Word::Release, handle, 0)
-    }
-
-    fn record(&mut self, id: u64, stream: u64) -> Result<(), Code> {
-        self.make(Word::Record, id, stream)
-    }
-
-    fn asked(&mut self, id: u64) -> Result<bool, Code> {
-        self.lend(Word::Asked, id, 0).map(|value| value == 1)
-    }
-
-    fn wait(&mut self, id: u64, stream: u64) -> Result<(), Code> {
-        self.make(Word::Wait, id, stream)
-    }
-
-    fn sync(&mut self, stream: u64) -> Result<(), Code> {
-        self.make(Word::Sync, stream, 0)
-    }
-
-    fn giveback(&mut self, base: u64, va_size: u64) -> Result<(), Code> {
-        self.make(Word::Giveback, base, va_size)
-    }
-
-    fn happened(&mut self, call: &Happened) {
+    fn told(&mut self, call: &Happened) {
         assert!(self.happened.is_none(), "one call is told as two");
         self.happened = Some(Told {
             outcome: outcome_of(call),
@@ -125,12 +72,7 @@ impl Driver for Card {
 }
 
 fn outcome_of(call: &Happened) -> Outcome {
-    let records = call.records.iter().map(|record| Record {
-        word: word_of(record.word),
-        first: record.first,
-        second: record.second,
-        code: record.code,
-    });
+    let records = call.records.iter().map(record_of);
     Outcome {
         records: records.collect(),
         result: Answered {
@@ -141,8 +83,15 @@ fn outcome_of(call: &Happened) -> Outcome {
     }
 }
 
-fn word_of(word: caldarimpu::Word) -> Word {
-    compare::text::driver_word(word.name()).expect("the words are the same")
+/// The same record, as the Rust's driver has it.
+fn record_of(record: &caldarimpu::Record) -> Record {
+    let word = compare::text::driver_word(record.word.name());
+    Record {
+        word: word.expect("the words are the same"),
+        first: record.first,
+        second: record.second,
+        code: record.code,
+    }
 }
 
 /// The pool of a session: there from its opening to its close.

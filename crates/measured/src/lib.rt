@@ -1,82 +1,34 @@
-// What bench/ calls from outside: the pool's calls, and the test of a pool value, under C's conventions, with the promises of those that they call.
+// What bench/ calls from outside, under C's conventions: the least that a call costs which takes the pool by value and hands it back.
 ghost use mathlib.Core.Path.{_≡_};
-ghost use Prim.Native.Nat.{_/_};
-ghost use lib.ListN.{length};
 ghost use Rattle.tables.specs.WellFormed.{wellFormed};
-use calls::Pool;
-use words::Address;
+use tables::Pool;
 
 #[repr(C)]
-pub struct Measured {
+pub struct Passed {
     pub pool: Pool,
-    pub records: usize,
-    pub taken: usize,
+    pub sound: bool,
+}
+
+// The pool in and out.
+#[no_mangle]
+pub extern "C" fn measured_passed(pool: Pool) -> Passed
+    ensures { λ r. ⌜ r .pool ≡ pool ⌝ }
+{
+    Passed { pool, sound: true }
+}
+
+// The pool in, tested, and out.
+#[no_mangle]
+pub extern "C" fn measured_tested(pool: Pool) -> Passed
+    ensures { λ r. ⌜ (r .pool ≡ pool) × (r .sound ≡ wellFormed pool) ⌝ }
+{
+    let sound = pools::well_formed(pool);
+    Passed { pool, sound }
 }
 
 #[no_mangle]
-pub extern "C" fn measured_well_formed(p: tables::Pool) -> bool
+pub extern "C" fn measured_well_formed(p: Pool) -> bool
     ensures { λ r. ⌜ r ≡ wellFormed p ⌝ }
 {
     pools::well_formed(p)
-}
-
-#[no_mangle]
-pub extern "C" fn measured_open(
-    granularity: u64,
-    va: u64,
-    initial: u64,
-    answers: &[u64],
-    log: &mut [u64],
-) -> Measured {
-    let called = Pool::open(granularity, 0, va, initial, 0, answers, log);
-    let pool = called.pool;
-    Measured {
-        pool,
-        records: called.records,
-        taken: called.taken,
-    }
-}
-
-#[no_mangle]
-pub extern "C" fn measured_malloc(
-    pool: Pool,
-    bytes: u64,
-    stream: u64,
-    answers: &[u64],
-    log: &mut [u64],
-) -> Measured {
-    let called = pool.malloc(bytes, stream, answers, log);
-    let left = called.pool;
-    Measured {
-        pool: left,
-        records: called.records,
-        taken: called.taken,
-    }
-}
-
-#[no_mangle]
-pub extern "C" fn measured_free(
-    pool: Pool,
-    address: u64,
-    answers: &[u64],
-    log: &mut [u64],
-) -> Measured {
-    let called = pool.free(Address(address), answers, log);
-    let left = called.pool;
-    Measured {
-        pool: left,
-        records: called.records,
-        taken: called.taken,
-    }
-}
-
-#[no_mangle]
-pub extern "C" fn measured_close(pool: Pool, answers: &[u64], log: &mut [u64]) -> Measured {
-    let called = pool.close(answers, log);
-    let left = called.pool;
-    Measured {
-        pool: left,
-        records: called.records,
-        taken: called.taken,
-    }
 }

@@ -2,7 +2,7 @@
 
 use std::collections::BTreeMap;
 
-use crate::{Code, Driver, Happened, Record, Word};
+use crate::{driver::Answer, Answers, Code, Happened, Record, Word};
 
 /// A made-up driver for tests and first steps. It counts out bases and handles, notes its calls and
 /// the pool's, and fails where it is told to.
@@ -57,17 +57,6 @@ impl Card {
         &self.trace
     }
 
-    fn answer(&mut self, word: Word, first: u64, second: u64) -> Result<(), Code> {
-        let failure = self.failure(word);
-        self.seen.push(Record {
-            word,
-            first,
-            second,
-            code: failure.map_or(0, Code::get),
-        });
-        failure.map_or(Ok(()), Err)
-    }
-
     fn failure(&mut self, word: Word) -> Option<Code> {
         let failure = self.failures.get_mut(&word)?;
         if failure.after > 0 {
@@ -77,73 +66,35 @@ impl Card {
         self.failures.remove(&word).map(|failure| failure.code)
     }
 
-    /// For words whose success has a value, which stands in the record.
-    fn noted(&mut self) -> &mut Record {
-        self.seen.last_mut().expect("a record was just noted")
+    /// Bases are multiples of va_size, one apart; handles count from 1.
+    fn value(&mut self, wanted: Record) -> u64 {
+        let given = self.values.remove(&wanted.word);
+        match wanted.word {
+            Word::Reserve => {
+                self.reserved += 2;
+                given.unwrap_or(self.reserved * wanted.second)
+            }
+            Word::Create => {
+                self.created += 1;
+                given.unwrap_or(self.created)
+            }
+            Word::Asked => u64::from(wanted.first < self.done),
+            _ => 0,
+        }
     }
 }
 
-impl Driver for Card {
-    /// Bases are multiples of va_size, one apart.
-    fn reserve(&mut self, va_size: u64) -> Result<u64, Code> {
-        self.answer(Word::Reserve, 0, va_size)?;
-        self.reserved += 2;
-        let given = self.values.remove(&Word::Reserve);
-        let base = given.unwrap_or(self.reserved * va_size);
-        self.noted().first = base;
-        Ok(base)
+impl Answers for Card {
+    fn answer(&mut self, wanted: Record) -> Result<u64, Code> {
+        let answer = match self.failure(wanted.word) {
+            Some(code) => Err(code),
+            None => Ok(self.value(wanted)),
+        };
+        self.seen.push(wanted.answered(Answer::of(answer)));
+        answer
     }
 
-    /// Handles count from 1.
-    fn create(&mut self, page_size: u64) -> Result<u64, Code> {
-        self.answer(Word::Create, 0, page_size)?;
-        self.created += 1;
-        let given = self.values.remove(&Word::Create);
-        let handle = given.unwrap_or(self.created);
-        self.noted().first = handle;
-        Ok(handle)
-    }
-
-    fn map(&mut self, address: u64, handle: u64) -> Result<(), Code> {
-        self.answer(Word::Map, address, handle)
-    }
-
-    fn access(&mut self, address: u64, bytes: u64) -> Result<(), Code> {
-        self.answer(Word::Access, address, bytes)
-    }
-
-    fn unmap(&mut self, address: u64, bytes: u64) -> Result<(), Code> {
-        self.answer(Word::Unmap, address, bytes)
-    }
-
-    fn release(&mut self, handle: u64) -> Result<(), Code> {
-        self.answer(Word::Release, handle, 0)
-    }
-
-    fn record(&mut self, id: u64, stream: u64) -> Result<(), Code> {
-        self.answer(Word::Record, id, stream)
-    }
-
-    fn asked(&mut self, id: u64) -> Result<bool, Code> {
-        self.answer(Word::Asked, id, 0)?;
-        let complete = id < self.done;
-        self.noted().second = u64::from(complete);
-        Ok(complete)
-    }
-
-    fn wait(&mut self, id: u64, stream: u64) -> Result<(), Code> {
-        self.answer(Word::Wait, id, stream)
-    }
-
-    fn sync(&mut self, stream: u64) -> Result<(), Code> {
-        self.answer(Word::Sync, stream, 0)
-    }
-
-    fn giveback(&mut self, base: u64, va_size: u64) -> Result<(), Code> {
-        self.answer(Word::Giveback, base, va_size)
-    }
-
-    fn happened(&mut self, call: &Happened) {
+    fn told(&mut self, call: &Happened) {
         self.trace += &call.to_string();
     }
 }

@@ -44,6 +44,75 @@ pub trait Driver {
     fn happened(&mut self, _call: &Happened) {}
 }
 
+/// A driver in one function, for those that note and answer every call alike, as made-up ones do.
+/// Whatever has it is a [`Driver`].
+pub trait Answers {
+    /// Answers a driver call: a base, a handle, or 1 for an event that is complete; of any other
+    /// word the number is not looked at.
+    fn answer(&mut self, wanted: Record) -> Result<u64, Code>;
+
+    /// As [`Driver::happened`].
+    fn told(&mut self, _call: &Happened) {}
+}
+
+impl<T: Answers> Driver for T {
+    fn reserve(&mut self, va_size: u64) -> Result<u64, Code> {
+        self.answer(Record::wanted(Word::Reserve, 0, va_size))
+    }
+
+    fn create(&mut self, page_size: u64) -> Result<u64, Code> {
+        self.answer(Record::wanted(Word::Create, 0, page_size))
+    }
+
+    fn map(&mut self, address: u64, handle: u64) -> Result<(), Code> {
+        self.answer(Record::wanted(Word::Map, address, handle))
+            .map(drop)
+    }
+
+    fn access(&mut self, address: u64, bytes: u64) -> Result<(), Code> {
+        self.answer(Record::wanted(Word::Access, address, bytes))
+            .map(drop)
+    }
+
+    fn unmap(&mut self, address: u64, bytes: u64) -> Result<(), Code> {
+        self.answer(Record::wanted(Word::Unmap, address, bytes))
+            .map(drop)
+    }
+
+    fn release(&mut self, handle: u64) -> Result<(), Code> {
+        self.answer(Record::wanted(Word::Release, handle, 0))
+            .map(drop)
+    }
+
+    fn record(&mut self, id: u64, stream: u64) -> Result<(), Code> {
+        self.answer(Record::wanted(Word::Record, id, stream))
+            .map(drop)
+    }
+
+    fn asked(&mut self, id: u64) -> Result<bool, Code> {
+        let complete = self.answer(Record::wanted(Word::Asked, id, 0))?;
+        Ok(complete == 1)
+    }
+
+    fn wait(&mut self, id: u64, stream: u64) -> Result<(), Code> {
+        self.answer(Record::wanted(Word::Wait, id, stream))
+            .map(drop)
+    }
+
+    fn sync(&mut self, stream: u64) -> Result<(), Code> {
+        self.answer(Record::wanted(Word::Sync, stream, 0)).map(drop)
+    }
+
+    fn giveback(&mut self, base: u64, va_size: u64) -> Result<(), Code> {
+        self.answer(Record::wanted(Word::Giveback, base, va_size))
+            .map(drop)
+    }
+
+    fn happened(&mut self, call: &Happened) {
+        self.told(call);
+    }
+}
+
 /// Document 01's driver words, in its order.
 #[derive(Clone, Copy, Debug, PartialEq, Eq, PartialOrd, Ord)]
 #[allow(missing_docs, reason = "the methods of Driver say what they are")]
@@ -126,6 +195,16 @@ impl Record {
         })
     }
 
+    /// A driver call that is not made yet.
+    fn wanted(word: Word, first: u64, second: u64) -> Self {
+        Self {
+            word,
+            first,
+            second,
+            code: 0,
+        }
+    }
+
     /// The record that this driver call leaves when it is answered so.
     pub(crate) fn answered(self, answer: Answer) -> Self {
         let Answer { code, value } = answer;
@@ -151,11 +230,23 @@ pub(crate) struct Answer {
     pub value: u64,
 }
 
+impl Answer {
+    pub fn of(answer: Result<u64, Code>) -> Self {
+        match answer {
+            Ok(value) => Self { code: 0, value },
+            Err(code) => Self {
+                code: code.get(),
+                value: 0,
+            },
+        }
+    }
+}
+
 /// Makes the driver call of a record. What only an answer tells is not looked at.
 pub(crate) fn make(driver: &mut dyn Driver, wanted: Record) -> Answer {
     let Record { first, second, .. } = wanted;
     let nothing = |()| 0;
-    let answer = match wanted.word {
+    Answer::of(match wanted.word {
         Word::Reserve => driver.reserve(second),
         Word::Create => driver.create(second),
         Word::Map => driver.map(first, second).map(nothing),
@@ -167,12 +258,5 @@ pub(crate) fn make(driver: &mut dyn Driver, wanted: Record) -> Answer {
         Word::Wait => driver.wait(first, second).map(nothing),
         Word::Sync => driver.sync(first).map(nothing),
         Word::Giveback => driver.giveback(first, second).map(nothing),
-    };
-    match answer {
-        Ok(value) => Answer { code: 0, value },
-        Err(code) => Answer {
-            code: code.get(),
-            value: 0,
-        },
-    }
+    })
 }

@@ -33,7 +33,7 @@ mod refusal;
 mod trace;
 
 pub use card::Card;
-pub use driver::{Code, Driver, Record, Word};
+pub use driver::{Answers, Code, Driver, Record, Word};
 pub use pool::{Buffer, Freed, Pool};
 pub use refusal::Refusal;
 pub use trace::{Call, Config, Happened};

@@ -4,10 +4,10 @@
 use std::collections::BTreeMap;
 
 use crate::{
-    driver::make,
+    driver::{make, Answer},
     ffi::{self, Reply, LOG},
     pool::run,
-    Call, Code, Config, Driver, Happened, Pool, Record, Word,
+    Answers, Call, Code, Config, Happened, Pool, Record, Word,
 };
 
 /// A driver of random mood, and not always a credible one.
@@ -43,85 +43,36 @@ impl Whim {
         (mixed ^ (mixed >> 31)) % end
     }
 
-    fn answer(&mut self, word: Word, first: u64, second: u64) -> Result<(), Code> {
-        let code = match self.below(1000) < self.failures {
-            true => 1 + self.below(3),
-            false => 0,
-        };
-        self.seen.push(Record {
-            word,
-            first,
-            second,
-            code,
-        });
-        Code::new(code).map_or(Ok(()), Err)
-    }
-
-    fn noted(&mut self) -> &mut Record {
-        self.seen.last_mut().expect("a record was just noted")
+    /// Bases are aligned mostly and free mostly; handles are new mostly, and some are those that are
+    /// guessed.
+    fn value(&mut self, wanted: Record) -> u64 {
+        match wanted.word {
+            Word::Reserve => {
+                let base = wanted.second * (1 + self.below(200));
+                base + 4 * self.below(3) + self.below(100) / 99
+            }
+            Word::Create => match self.below(40) {
+                0 => (1 << 63) + self.below(12),
+                _ => self.below(100_000),
+            },
+            Word::Asked => u64::from(self.below(100) < self.complete),
+            _ => 0,
+        }
     }
 }
 
-impl Driver for Whim {
-    /// Aligned mostly, free mostly.
-    fn reserve(&mut self, va_size: u64) -> Result<u64, Code> {
-        self.answer(Word::Reserve, 0, va_size)?;
-        let base = va_size * (1 + self.below(200)) + 4 * self.below(3) + self.below(100) / 99;
-        self.noted().first = base;
-        Ok(base)
-    }
-
-    /// New mostly; some are those that are guessed.
-    fn create(&mut self, page_size: u64) -> Result<u64, Code> {
-        self.answer(Word::Create, 0, page_size)?;
-        let handle = match self.below(40) {
-            0 => (1 << 63) + self.below(12),
-            _ => self.below(100_000),
+impl Answers for Whim {
+    fn answer(&mut self, wanted: Record) -> Result<u64, Code> {
+        let fails = self.below(1000) < self.failures;
+        let answer = match Code::new(1 + self.below(3)) {
+            Some(code) if fails => Err(code),
+            _ => Ok(self.value(wanted)),
         };
-        self.noted().first = handle;
-        Ok(handle)
+        self.seen.push(wanted.answered(Answer::of(answer)));
+        answer
     }
 
-    fn map(&mut self, address: u64, handle: u64) -> Result<(), Code> {
-        self.answer(Word::Map, address, handle)
-    }
-
-    fn access(&mut self, address: u64, bytes: u64) -> Result<(), Code> {
-        self.answer(Word::Access, address, bytes)
-    }
-
-    fn unmap(&mut self, address: u64, bytes: u64) -> Result<(), Code> {
-        self.answer(Word::Unmap, address, bytes)
-    }
-
-    fn release(&mut self, handle: u64) -> Result<(), Code> {
-        self.answer(Word::Release, handle, 0)
-    }
-
-    fn record(&mut self, id: u64, stream: u64) -> Result<(), Code> {
-        self.answer(Word::Record, id, stream)
-    }
-
-    fn asked(&mut self, id: u64) -> Result<bool, Code> {
-        self.answer(Word::Asked, id, 0)?;
-        let complete = self.below(100) < self.complete;
-        self.noted().second = u64::from(complete);
-        Ok(complete)
-    }
-
-    fn wait(&mut self, id: u64, stream: u64) -> Result<(), Code> {
-        self.answer(Word::Wait, id, stream)
-    }
-
-    fn sync(&mut self, stream: u64) -> Result<(), Code> {
-        self.answer(Word::Sync, stream, 0)
-    }
-
-    fn giveback(&mut self, base: u64, va_size: u64) -> Result<(), Code> {
-        self.answer(Word::Giveback, base, va_size)
-    }
-
-    fn happened(&mut self, call: &Happened) {
+    fn told(&mut self, call: &Happened) {
         self.told.push(call.to_string());
         self.runs += call.runs;
     }
@@ -220,7 +171,7 @@ impl Two {
             second: reply.second,
             runs: 1 + records.len() as u64,
         };
-        self.plain.happened(&happened);
+        self.plain.told(&happened);
         reply.answer
     }
 
