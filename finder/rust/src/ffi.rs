@@ -1,6 +1,6 @@
 //! The library's structs and its four functions, as they cross C's conventions.
 //!
-//! tests/layout.rs holds every field's place against what the library reads and writes.
+//! tests/layout holds every field's place against what the library reads and writes.
 
 /// Most active pages.
 pub const PAGES: usize = 256;
