@@ -1,17 +1,14 @@
 -- What the code of cleanup needs, and what it promises.
-use mathlib.Core.Path.{_≡_}
 use mathlib.Core.List.{List}
-use Prim.Native.Nat.{ℕ, _+_, _-_, _*_, _≤_}
-use lib.ListN.{getD}
-use Rattle.tables.specs.Values.{Tables, zombie, holesOf, zombiesOf, withHoles, withZombies}
+use Prim.Native.Nat.{ℕ, _+_, _*_, _≤_}
+use Rattle.tables.specs.Values.{Tables, holesOf, zombiesOf, withHoles, withZombies}
 use Rattle.tables.specs.Kept.{KeptHoles, KeptZombies}
-use Rattle.tables.specs.Cleanup.{clean, cleanup}
+use Rattle.tables.specs.Cleanup.{cleanup}
 use Rattle.tables.specs.declared.Holes.{Holes}
 use Rattle.tables.specs.declared.Zombies.{Zombies}
 use Rattle.keeping.specs.Sound.{Kept}
 use Rattle.driving.specs.Ran.{Ran, point}
 use Rattle.driving.specs.Endings.{ending}
-use Rattle.driving.specs.declared.Ended.the-variants.{On}
 use Rattle.cleanup.specs.declared.CleanedUp.{CleanedUp}
 
 -- the tables `t`, with these zombies and holes
@@ -25,17 +22,6 @@ pub record Cleanable (z : Zombies) (h : Holes) : Type 0 where
   pub lost : ℕ → ℕ
   pub around : Tables
   pub kept : Kept lost (cleaning z h around)
-
--- One zombie cleaned, that at place `i`.
-pub record Cleans (i : ℕ) (xs : List ℕ) (z : Zombies) (h : Holes) (k : ℕ) (l : List ℕ) (r : CleanedUp) (m : List ℕ) : Type 0 where
-  pub ran : (t : Tables) →
-      Ran (clean i (getD (zombiesOf z) i (zombie 0 0 0))) xs (point k (cleaning z h t) l) (ending (r .ended))
-      (point (r .made) (cleaning (r .zombies) (r .holes) t) m)
-  pub zombies : KeptZombies (r .zombies)
-  pub holes : KeptHoles (r .holes)
-  pub fewer : r .zombies .count ≡ z .count - 1
-  pub once : r .made ≡ k + 1
-  pub again : r .ended ≡ On → Cleanable (r .zombies) (r .holes)
 
 -- Every zombie is asked after at most once, and unmapped at most once.
 pub record CleansUp (xs : List ℕ) (z : Zombies) (h : Holes) (k : ℕ) (l : List ℕ) (r : CleanedUp) (m : List ℕ) : Type 0 where

@@ -1,7 +1,7 @@
 // Malloc's first part, cleanup: what each zombie held is unmapped and becomes a hole, once its event is complete.
-ghost use Prim.Native.Nat.{_+_, _*_, _≤_, _<_};
+ghost use Prim.Native.Nat.{_+_, _*_, _≤_};
 ghost use lib.ListN.{length};
-ghost use Rattle.cleanup.specs.Cleaning.{Cleanable, Cleans, CleansUp};
+ghost use Rattle.cleanup.specs.Cleaning.{Cleanable, CleansUp};
 use driving::Asked;
 use driving::Ended;
 use driving::is_complete;
@@ -20,40 +20,8 @@ pub struct CleanedUp {
     pub made: usize,
 }
 
-// The zombie at a place is taken out before the unmap: where no answer is left for that, its range is in no table.
-fn clean(
-    zombies: Zombies,
-    holes: Holes,
-    i: usize,
-    answers: &[u64],
-    log: &mut [u64],
-    made: usize,
-) -> CleanedUp
-    requires { ⌜ Cleanable zombies holes × ((i < zombies .count) × (4 * (made + 1) ≤ length (now log))) ⌝ }
-    ensures { λ r. ⌜ Cleans i (now (answers .entry)) zombies holes made (now (log .entry)) r (now (log .exit)) ⌝ }
-{
-    let z = zombies.cells[i];
-    let left = swap_out(zombies, i);
-    let ended = try_tell(answers, log, made, Word::Unmap, z.start.0, z.size);
-    let n = made + 1;
-    let Ended::On = ended else {
-        return CleanedUp {
-            zombies: left,
-            holes,
-            ended,
-            made: n,
-        };
-    };
-    let returned = insert_hole(holes, z.start, z.size);
-    CleanedUp {
-        zombies: left,
-        holes: returned,
-        ended: Ended::On,
-        made: n,
-    }
-}
-
 // Cleanup: walk zombies from place 0. A zombie that is cleaned leaves another in its place, which is asked next.
+// The zombie is taken out before the unmap: where no answer is left for that, its range is in no table.
 pub fn cleanup(
     zombies: Zombies,
     holes: Holes,
@@ -81,14 +49,18 @@ pub fn cleanup(
             };
         };
         if complete {
-            let cleaned = clean(zs, hs, i, answers, log, n);
-            let ended = cleaned.ended;
+            zs = swap_out(zs, i);
+            let ended = try_tell(answers, log, n, Word::Unmap, z.start.0, z.size);
+            n += 1;
             let Ended::On = ended else {
-                return cleaned;
+                return CleanedUp {
+                    zombies: zs,
+                    holes: hs,
+                    ended,
+                    made: n,
+                };
             };
-            zs = cleaned.zombies;
-            hs = cleaned.holes;
-            n = cleaned.made;
+            hs = insert_hole(hs, z.start, z.size);
         } else {
             i += 1;
         }

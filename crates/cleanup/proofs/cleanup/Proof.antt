@@ -16,7 +16,8 @@ use Rattle.driving.specs.Endings.{ending, askedEnding}
 use Rattle.driving.proofs.Ran.{next, gave, looked}
 use Rattle.cleanup.specs.Cleaning.{cleaning, Cleanable}
 use Rattle.cleanup.proofs.Turns.{walk-out, walk-on, walk-clean, walk-stop}
-use Rattle.cleanup.proofs.Sounds.{cell-is}
+use Rattle.cleanup.proofs.Sounds.{cell-is, it-ends, room}
+use Rattle.cleanup.proofs.Cleans.{kept-left, count-left, cleanable-left, cleans-stop, cleans-on}
 use Rattle.cleanup.proofs.cleanup.Statement.{statement}
 use Rattle.cleanup.proofs.cleanup.Tie as tie
 
@@ -33,11 +34,15 @@ abbrev μ-loop : tie.MeasureT-loop
 abbrev turn : tie.After-is-complete Inv-loop μ-loop → tie.At-loop Inv-loop μ-loop
 turn c = c .before .before .before .before
 
--- a zombie is left to be asked
+-- a zombie stands at the place
+below : (c : tie.After-is-complete Inv-loop μ-loop) → turn c .loop .i < turn c .loop .zs .count
+below c = c .before .before .before .loop-test .taken
+
+-- it is left to be asked
 some-left : (c : tie.After-is-complete Inv-loop μ-loop) → 0 < length (zombiesOf (turn c .loop .zs)) - turn c .loop .i
 some-left c =
     let v = turn c in
-    omega (arith, c .before .before .before .loop-test .taken, zombies-count (v .loop .zs) (v .loop .inv .1 .zombies))
+    omega (arith, below c, zombies-count (v .loop .zs) (v .loop .inv .1 .zombies))
 
 -- what `is_complete` said, of the walk's own zombie
 asked : (c : tie.After-is-complete Inv-loop μ-loop) (t : Tables) →
@@ -47,15 +52,15 @@ asked : (c : tie.After-is-complete Inv-loop μ-loop) (t : Tables) →
     (point (v .loop .n + 1) (cleaning (v .loop .zs) (v .loop .hs) t) (c .is-complete .last .1 .0))
 asked c t =
     let v = turn c in
-    rw (cell-is (v .loop .zs) (v .loop .i) (c .before .before .before .loop-test .taken)) at
+    rw (cell-is (v .loop .zs) (v .loop .i) (below c)) at
     (c .is-complete .ensures (cleaning (v .loop .zs) (v .loop .hs) t))
 
--- the asking before a zombie is cleaned, and its answer
-abbrev before-clean : tie.After-clean Inv-loop μ-loop → tie.After-is-complete Inv-loop μ-loop
-before-clean c = c .before .before .before .before .before .before .before .before
+-- the asking before a zombie is taken out, and its answer
+abbrev before-unmap : tie.After-try-tell Inv-loop μ-loop → tie.After-is-complete Inv-loop μ-loop
+before-unmap c = c .before .before .before .before .before .before .before .before .before
 
-complete : (c : tie.After-clean Inv-loop μ-loop) → askedEnding (before-clean c .is-complete .result) ≡ on true
-complete c = let d = c .before .before in ap askedEnding (d .before .before .asked .given .1) ∙ ap on (d .if1 .taken)
+complete : (c : tie.After-try-tell Inv-loop μ-loop) → askedEnding (before-unmap c .is-complete .result) ≡ on true
+complete c = let d = c .before .before .before in ap askedEnding (d .before .before .asked .given .1) ∙ ap on (d .if1 .taken)
 
 loop-holds : tie.Need-loop-holds Inv-loop μ-loop
 loop-holds c =
@@ -93,15 +98,32 @@ returns c =
       ran = λ t. next _ looked (v .loop .inv .4 t _ _ (walk-out _ (v .loop .i) (some-left q) (asked q t) (ap askedEnding (c .enum-told .given .1))));
       zombies = v .loop .inv .1 .zombies;
       holes = v .loop .inv .1 .holes;
-      most = omega (arith, v .loop .inv .3, q .before .before .before .loop-test .taken);
+      most = omega (arith, v .loop .inv .3, below q);
     }
 
-clean-requires : tie.Need-clean-requires Inv-loop μ-loop
-clean-requires c κs =
-    let q = c .before .before .before .before .before .before .before in
+swap-out-requires : tie.Need-swap-out-requires Inv-loop μ-loop
+swap-out-requires c κs =
+    let q = c .before .before .before .before .before .before in
+    (turn q .loop .inv .1 .zombies, below q)
+
+try-tell-requires : tie.Need-try-tell-requires Inv-loop μ-loop
+try-tell-requires c κs =
+    let q = c .before .before .before .before .before .before .before .before in
     let v = turn q in
-    let b = q .before .before .before .loop-test .taken in
-    (v .loop .inv .1, (b, omega (arith, b, v .loop .inv .2, v .loop .inv .3, q .is-complete .kept .1 .0, v .before .before .before .pre)))
+    omega (
+      arith,
+      below q,
+      v .loop .inv .2,
+      v .loop .inv .3,
+      q .is-complete .kept .1 .0,
+      v .before .before .before .pre,
+    )
+
+add-n-2 : tie.Need-add-n-2 Inv-loop μ-loop
+add-n-2 c =
+    let q = before-unmap (c .before .before) in
+    let v = turn q in
+    omega (arith, below q, v .loop .inv .3, v .before .before .before .pre)
 
 enum-told-2 : tie.Need-enum-told-2 Inv-loop μ-loop
 enum-told-2 c = search needs
@@ -116,38 +138,58 @@ returns-2 : tie.Need-returns-2 Inv-loop μ-loop
 unfolding cleanup
 returns-2 c =
     let w = c .before .before .before .before in
-    let q = before-clean w in
+    let q = before-unmap w in
     let v = turn q in
-    let m = w .clean .ensures in
+    let k = v .loop .inv .1 in
+    let b = below q in
+    let out = w .before .before .swap-out .ensures in
+    let f = ap ending (c .enum-told3 .given .1) in
     record {
       ran = λ t. next _ looked (v .loop .inv .4 t _ _
-          (walk-stop _ (v .loop .i) (some-left q) (asked q t) (complete w) (m .ran t) (ap ending (c .enum-told3 .given .1))));
-      zombies = m .zombies;
-      holes = m .holes;
-      most = omega (arith, m .once, v .loop .inv .3, q .before .before .before .loop-test .taken);
+          (walk-stop _ (v .loop .i) (some-left q) (asked q t) (complete w) (cleans-stop k b out (w .try-tell .ensures) t f) f));
+      zombies = kept-left k b out;
+      holes = k .holes;
+      most = omega (arith, v .loop .inv .3, b);
     }
+
+insert-hole-requires : tie.Need-insert-hole-requires Inv-loop μ-loop
+insert-hole-requires c κs =
+    let q = before-unmap (c .before .before .before .before) in
+    let v = turn q in
+    let k = v .loop .inv .1 in
+    let b = below q in
+    let z = v .loop .zs in
+    let h = v .loop .hs in
+    let i = v .loop .i in
+    ((k .holes, room z h i k b), (k .kept .sound .holesApart, rw (cell-is z i b) (it-ends z h i k b)))
 
 loop-less : tie.Need-loop-less Inv-loop μ-loop
 loop-less c =
-    let w = c .before .before .before .before .before .before in
-    let q = before-clean w in
-    omega (arith, w .clean .ensures .fewer, q .before .before .before .loop-test .taken)
+    let w = c .before .before .before .before .before in
+    let q = before-unmap w in
+    let b = below q in
+    omega (arith, count-left (turn q .loop .inv .1) b (w .before .before .swap-out .ensures), b)
 
 loop-again : tie.Need-loop-again Inv-loop μ-loop
 loop-again c =
-    let w = c .before .before .before .before .before .before in
-    let q = before-clean w in
+    let w = c .before .before .before .before .before in
+    let q = before-unmap w in
     let v = turn q in
-    let b = q .before .before .before .loop-test .taken in
-    let m = w .clean .ensures in
-    let on-is = c .before .before .enum-told2 .given .1 in
-    let shorter : length (zombiesOf (w .clean .result .zombies)) - v .loop .i ≡ length (zombiesOf (v .loop .zs)) - v .loop .i - 1 =
-    omega (arith, m .fewer, zombies-count (w .clean .result .zombies) (m .zombies), zombies-count (v .loop .zs) (v .loop .inv .1 .zombies)) in (
-      omega (arith, m .fewer, b),
-      m .again on-is,
-      omega (arith, v .loop .inv .2, q .is-complete .kept .1 .0, w .clean .kept .1 .1 .1 .1 .0),
-      omega (arith, m .once, m .fewer, v .loop .inv .3, b),
-      λ t e u r. v .loop .inv .4 t e u (walk-clean _ (v .loop .i) (some-left q) (asked q t) (complete w) (m .ran t) (ap ending on-is) (rw shorter at r)),
+    let k = v .loop .inv .1 in
+    let b = below q in
+    let left = w .before .before .swap-out .result in
+    let out = w .before .before .swap-out .ensures in
+    let put = c .insert-hole .ensures in
+    let fewer = count-left k b out in
+    let went-on = ap ending (c .before .enum-told2 .given .1) in
+    let shorter : length (zombiesOf left) - v .loop .i ≡ length (zombiesOf (v .loop .zs)) - v .loop .i - 1 =
+    omega (arith, fewer, zombies-count left (kept-left k b out), zombies-count (v .loop .zs) (k .zombies)) in (
+      omega (arith, fewer, b),
+      cleanable-left k b out put,
+      omega (arith, v .loop .inv .2, q .is-complete .kept .1 .0, w .try-tell .kept .1 .0),
+      omega (arith, fewer, v .loop .inv .3, b),
+      λ t e u r. v .loop .inv .4 t e u
+          (walk-clean _ (v .loop .i) (some-left q) (asked q t) (complete w) (cleans-on k b out (w .try-tell .ensures) t put went-on) refl (rw shorter at r)),
     )
 
 add-i : tie.Need-add-i Inv-loop μ-loop
@@ -160,7 +202,7 @@ loop-again-2 : tie.Need-loop-again-2 Inv-loop μ-loop
 loop-again-2 c =
     let q = c .before .before .before .before .before .before in
     let v = turn q in
-    let b = q .before .before .before .loop-test .taken in
+    let b = below q in
     let not-yet = ap askedEnding (c .before .before .asked .given .1) ∙ ap on (c .if1 .left) in
     let shorter : length (zombiesOf (v .loop .zs)) - (v .loop .i + 1) ≡ length (zombiesOf (v .loop .zs)) - v .loop .i - 1 = omega arith in (
       omega (arith, b),
@@ -200,11 +242,14 @@ cleanup-spec =
     enum-told
     same-length
     returns
-    clean-requires
+    swap-out-requires
+    try-tell-requires
+    add-n-2
     enum-told-2
     enum-told-3
     same-length-2
     returns-2
+    insert-hole-requires
     loop-less
     loop-again
     add-i
