@@ -18,10 +18,9 @@ use Rattle.lists.proofs.Front.{front-append, front-sorted, sorted-least}
 use Rattle.tables.specs.InsertFree.{from, withoutFree}
 use Rattle.tables.specs.Pull.{ownOf, othersOf, pullOrder}
 use Rattle.tables.specs.declared.FreeRegion.{FreeRegion}
-use Rattle.regions.specs.Pulling.{nextToPull, besides, isMade, olderOf}
+use Rattle.regions.specs.Pulling.{nextToPull, besides, isMade, Oldest, olderOf}
 use Rattle.regions.specs.declared.Made.{Made}
 use Rattle.regions.specs.declared.Made.the-variants.{Region, Nothing}
-use Rattle.regions.specs.declared.Oldest.{Oldest}
 
 abbrev pub age : FreeRegion → ℕ
 age r = r .id .0

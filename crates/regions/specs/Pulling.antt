@@ -6,12 +6,12 @@ use Prim.Native.Nat.{ℕ}
 use lib.Dec.{eqb}
 use Rattle.lists.specs.Front.{front}
 use Rattle.lists.specs.Scan.{better}
+use Rattle.lists.specs.declared.Best.{Best}
 use Rattle.tables.specs.InsertFree.{from, withoutFree}
 use Rattle.tables.specs.Pull.{pullOrder}
 use Rattle.tables.specs.declared.FreeRegion.{FreeRegion}
 use Rattle.regions.specs.declared.Made.{Made}
 use Rattle.regions.specs.declared.Made.the-variants.{Region, Nothing}
-use Rattle.regions.specs.declared.Oldest.{Oldest}
 
 -- the first in the order in which regions are pulled
 unfoldable pub nextToPull : ℕ → List FreeRegion → Option FreeRegion
@@ -25,6 +25,11 @@ besides Nothing l = l
 unfoldable pub isMade : Made → FreeRegion → Bool
 isMade (Region a) q = eqb (from q) (a .0)
 isMade Nothing q = false
+
+-- the oldest so far, of this stream and of the others
+pub record Oldest : Type 0 where
+  pub own : Best
+  pub other : Best
 
 -- the oldest so far, once the region `q` at place `i` is seen
 unfoldable pub olderOf : Made → ℕ → ℕ → Oldest → FreeRegion → Oldest
