@@ -1,39 +1,35 @@
--- `pools::standing::zombies_stand` meets its contract. The invariant: all past the count are zero if those that are left are. Assumes nothing.
+-- `pools::standing::zombies_stand` meets its contract. The invariant: where no number seen so far is above 0, all past the count are zero if those that are left
+-- are. Assumes nothing.
 use mathlib.Core.Path.{_≡_}
-use mathlib.Core.Bool.{false≢true}
 use Prim.Native.Nat.{_-_, _≤_}
 use native.Mathlib.Omega.{arith}
 use borrow.Author.Needs.{needs}
-use borrow.Author.Tests.{not-false}
-use lib.ListN.{length, drop, replicate}
+use borrow.Author.Tests.{eqb-true}
+use lib.Bits.{bitOr}
+use lib.ListN.{length, getD, drop, replicate}
 use Rattle.lists.proofs.Tests.{length-mapped}
 use Rattle.tables.specs.Values.{zombie}
 use Rattle.pools.proofs.Looking.{zeros-turn, zeros-end, zeros-filled}
+use Rattle.pools.proofs.Zeros.{or-none, zombie-none}
 use Rattle.pools.proofs.standing.zombies_stand.Statement.{statement}
 use Rattle.pools.proofs.standing.zombies_stand.Tie as tie
 
 abbrev Inv-loop : tie.InvT-loop
-Inv-loop t i₀ i =
+Inv-loop t i₀ starts₀ sizes₀ ids₀ i starts sizes ids =
     ((i ≤ 128) × (length (t .cells) ≡ 128)) ×
-    (drop i (t .cells) ≡ replicate (128 - i) (zombie 0 0 0) → drop (t .count) (t .cells) ≡ replicate (128 - t .count) (zombie 0 0 0))
+    (starts ≡ 0 → sizes ≡ 0 → ids ≡ 0 → drop i (t .cells) ≡ replicate (128 - i) (zombie 0 0 0) → drop (t .count) (t .cells) ≡ replicate (128 - t .count) (zombie 0 0 0))
 
 abbrev μ-loop : tie.MeasureT-loop
-μ-loop t i₀ i = 128 - i
+μ-loop t i₀ starts₀ sizes₀ ids₀ i starts sizes ids = 128 - i
 
 loop-holds : tie.Need-loop-holds Inv-loop μ-loop
-loop-holds c = ((search needs, search (needs, length-mapped)), λ e. e)
+loop-holds c = ((search needs, search (needs, length-mapped)), λ _ _ _ e. e)
 
 mul-rest : tie.Need-mul-rest Inv-loop μ-loop
 mul-rest c = search needs
 
 element-copy-out-rest : tie.Need-element-copy-out-rest Inv-loop μ-loop
 element-copy-out-rest c = search needs
-
-is-no-zombie-requires : tie.Need-is-no-zombie-requires Inv-loop μ-loop
-is-no-zombie-requires c κs = search needs
-
-returns : tie.Need-returns Inv-loop μ-loop
-returns c = λ e. absurd (false≢true e)
 
 add-i : tie.Need-add-i Inv-loop μ-loop
 add-i c = search needs
@@ -43,19 +39,27 @@ loop-less c = search needs
 
 loop-again : tie.Need-loop-again Inv-loop μ-loop
 loop-again c =
-    let a = c .before in
-    let v = a .before .before .before in
+    let v = c .before .before .before .before .before in
     let t = v .before .args .t1 in
     let l = v .loop in
-    let x = a .is-no-zombie .ensures (not-false _ (c .if1 .left)) in
-    ((search needs, search needs), λ e. l .inv .1 (zeros-turn (zombie 0 0 0) 128 (t .cells) (omega arith) (l .i) (omega arith) x e))
+    let z = getD (t .cells) (l .i) (zombie 0 0 0) in (
+      (search needs, search needs),
+      λ a b d e.
+          let x = or-none (l .starts) (z .start .0) a in
+          let y = or-none (l .sizes) (z .size) b in
+          let w = or-none (l .ids) (z .id .0) d in
+          l .inv .1 (x .0) (y .0) (w .0) (zeros-turn (zombie 0 0 0) 128 (t .cells) (omega arith) (l .i) (omega arith) (zombie-none z (x .1) (y .1) (w .1)) e),
+    )
 
-returns-2 : tie.Need-returns-2 Inv-loop μ-loop
-returns-2 c =
+returns : tie.Need-returns Inv-loop μ-loop
+returns c =
     let v = c .before in
     let t = v .before .args .t1 in
     let l = v .loop in
-    λ e. zeros-filled (zombie 0 0 0) 128 (t .cells) (omega arith) (t .count) (omega arith) (l .inv .1 (zeros-end (zombie 0 0 0) 128 (t .cells) (omega arith) (l .i) (omega arith)))
+    λ e.
+    let x = or-none (bitOr (l .starts) (l .sizes)) (l .ids) (eqb-true _ 0 e) in
+    let y = or-none (l .starts) (l .sizes) (x .0) in
+    zeros-filled (zombie 0 0 0) 128 (t .cells) (omega arith) (t .count) (omega arith) (l .inv .1 (y .0) (y .1) (x .1) (zeros-end (zombie 0 0 0) 128 (t .cells) (omega arith) (l .i) (omega arith)))
 
 pub zombies-stand-spec : {M : Type 1} → statement M
 zombies-stand-spec =
@@ -66,9 +70,7 @@ zombies-stand-spec =
     loop-holds
     mul-rest
     element-copy-out-rest
-    is-no-zombie-requires
-    returns
     add-i
     loop-less
     loop-again
-    returns-2)
+    returns)
