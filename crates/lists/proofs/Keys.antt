@@ -1,18 +1,19 @@
 -- Laws of lists whose keys rise, in the code's terms: the element of a key stands at the first place whose key is not below it, and what is done to that
 -- element alone is done at its place. Assumes nothing.
-use mathlib.Core.Path.{_≡_, refl, ap}
+use mathlib.Core.Path.{_≡_, refl, ap, _∙_}
 use mathlib.Core.Logic.{inl, inr}
 use mathlib.Core.Bool.{Bool, true, false, cond}
 use mathlib.Core.List.{List, [], _∷_, map}
-use Prim.Native.Nat.{ℕ, zero, suc, _≤_, _<_}
+use Prim.Native.Nat.{ℕ, zero, suc, _+_, _≤_, _<_}
 use native.Mathlib.Omega.{arith}
 use native.Mathlib.Nat.{le-of-suc-le-suc}
-use borrow.Author.Tests.{eq-eqb, ne-eqb, leb-true, leb-false}
+use native.Mathlib.Numerals.{add-one}
+use borrow.Author.Tests.{eq-eqb, ne-eqb, le-leb, lt-leb, leb-true, leb-false}
 use lib.Dec.{leb, eqb}
 use lib.ListN.{length, getD, set}
 use Rattle.lists.specs.Places.{removeAt, place}
 use Rattle.lists.specs.Tests.{Member}
-use Rattle.lists.specs.Order.{Rises, without}
+use Rattle.lists.specs.Order.{Rises, put, without}
 use Rattle.lists.proofs.Order.{without-none}
 use Rattle.lists.proofs.Members.{member-above}
 
@@ -60,6 +61,28 @@ module _ {A : Type 0} (key : A → ℕ) where
   rises-at b [] i d r h = absurd (omega arith)
   rises-at b (x ∷ l) zero d r h = r .0
   rises-at b (x ∷ l) (suc i) d r h = omega (arith, r .0, rises-at (key x) l i d (r .1) (le-of-suc-le-suc h))
+
+  -- the one element of a key taken out, as the code does it: at its place
+  pub without-key : (b : ℕ) (l : List A) (i : ℕ) (d : A) → Rises key b l → i < length l → without key (key (getD l i d)) l ≡ removeAt i l
+  without-key b [] i d r h = absurd (omega arith)
+  without-key b (x ∷ l) zero d r h = rw (eq-eqb (key x) (key x) refl) (without-none key (key x) (key x) l (omega arith) (r .1))
+  without-key b (x ∷ l) (suc i) d r h =
+      let above : key x < key (getD l i d) = rises-at (key x) l i d (r .1) (le-of-suc-le-suc h) in
+      rw (ne-eqb (key x) (key (getD l i d)) (λ e. omega arith)) (ap (λ m. x ∷ m) (without-key (key x) l i d (r .1) (le-of-suc-le-suc h)))
+
+  put-between : (b : ℕ) (y : A) (l : List A) (i : ℕ) (d : A) → Rises key b l → i < length l → key (getD l i d) ≤ key y →
+      (suc i < length l → key y ≤ key (getD l (suc i) d)) → put key y (removeAt i l) ≡ set l i y
+  put-between b y [] i d r h p q = absurd (omega arith)
+  put-between b y (x ∷ []) zero d r h p q = refl
+  put-between b y (x ∷ z ∷ l) zero d r h p q = rw (le-leb (key y) (key z) (q (omega arith)))
+  put-between b y (x ∷ l) (suc i) d r h p q =
+      let above : key x < key y = omega (arith, rises-at (key x) l i d (r .1) (le-of-suc-le-suc h)) in
+      rw (lt-leb (key y) (key x) above) (ap (λ m. x ∷ m) (put-between (key x) y l i d (r .1) (le-of-suc-le-suc h) p (λ k. q (omega arith))))
+
+  -- an element put in for the one of a key, with a key not below that one's nor above the next one's: a store at its place
+  pub put-without : (b : ℕ) (y : A) (l : List A) (i : ℕ) (d : A) → Rises key b l → i < length l → key (getD l i d) ≤ key y →
+      (i + 1 < length l → key y ≤ key (getD l (i + 1) d)) → put key y (without key (key (getD l i d)) l) ≡ set l i y
+  put-without b y l i d r h p q = ap (put key y) (without-key b l i d r h) ∙ put-between b y l i d r h p (rw add-one at q)
 
   module _ (f : A → A) where
     map-none : (k b : ℕ) (l : List A) → k ≤ b → Rises key b l → map (λ q. cond (eqb (key q) k) (f q) q) l ≡ l
