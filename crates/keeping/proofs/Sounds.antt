@@ -5,11 +5,13 @@ use mathlib.Core.Logic.{⊎-elim}
 use mathlib.Core.List.{List, [], _∷_, _++_}
 use Prim.Native.Nat.{ℕ, _+_, _-_, _≤_, _<_, _%_, _^_}
 use native.Mathlib.Omega.{arith}
+use lib.ListN.{length, getD}
 use Rattle.lists.specs.Tests.{All, Member}
 use Rattle.lists.specs.Order.{Rises}
 use Rattle.lists.proofs.Tests.{cases-lt, cases-eq, all-implies, all-append}
 use Rattle.lists.proofs.Walks.{sum-append}
-use Rattle.lists.proofs.Members.{sum-without}
+use Rattle.lists.proofs.Members.{member-all, member-at, sum-member, sum-without, without-keeps}
+use Rattle.lists.proofs.Keys.{rises-next}
 use Rattle.words.specs.declared.Address.{Address}
 use Rattle.tables.specs.Values.{Tables, address, withFree, withLive, withHoles, withZombies, withPages, withRoots, withCounter}
 use Rattle.tables.specs.declared.FreeRegion.{FreeRegion}
@@ -17,7 +19,7 @@ use Rattle.tables.specs.declared.LiveBuffer.{LiveBuffer}
 use Rattle.tables.specs.declared.Hole.{Hole}
 use Rattle.tables.specs.declared.Zombie.{Zombie}
 use Rattle.tables.specs.declared.Page.{Page}
-use Rattle.tables.specs.InsertFree.{from, withoutFree}
+use Rattle.tables.specs.InsertFree.{from, upto, withoutFree}
 use Rattle.tables.specs.InsertHole.{insertHole, Apart}
 use Rattle.keeping.specs.Cover.{within, coverFree, coverLive, coverHoles, coverZombies, coverRoots, pagesAt, handlesAt, idsAt}
 use Rattle.keeping.specs.Sound.{Whole, WholeRange, Sound}
@@ -112,6 +114,21 @@ module _ {lost hand bare : ℕ → ℕ} {t : Tables} (s : Sound lost hand bare t
       let held = within-in (from r) (r .size) x p q in
       let out = sum-without from (λ q. within (q .start .0) (q .size) x) 0 r (t .free) (s .freeRises) m in
       (omega (arith, sound-once x), omega (arith, sound-once x))
+
+  -- A free region ends where the next one starts, or lower.
+  pub sound-next : (i : ℕ) (d : FreeRegion) → i + 1 < length (t .free) → upto (getD (t .free) i d) ≤ from (getD (t .free) (i + 1) d)
+  sound-next i d h =
+      let r = getD (t .free) i d in
+      let q = getD (t .free) (i + 1) d in
+      let above : from r < from q = rises-next from 0 (t .free) i d (s .freeRises) h in
+      let here : Member q (t .free) = member-at (t .free) (i + 1) d h in
+      let held = within-in (from q) (q .size) (from q) (omega arith) (omega (arith, member-all _ q (t .free) here (s .free) .size .positive)) in
+      let counted = sum-member (λ p. within (p .start .0) (p .size) (from q)) q (withoutFree (from r) (t .free))
+      (without-keeps from (from r) q (t .free) here (λ e. omega arith)) in
+      ⊎-elim
+      (λ p. absurd (omega (arith, sound-alone r (member-at (t .free) i d (omega arith)) (from q) (omega arith) p .0)))
+      (λ p. p)
+      (cases-lt (from q) (upto r))
 
   pub sound-free : {hand′ bare′ : ℕ → ℕ} (l : List FreeRegion) → All (λ r. WholeRange (t .page) (r .start .0) (r .size)) l →
       Rises (λ r. r .start .0) 0 l → ((x : ℕ) → coverFree l x + hand′ x ≡ coverFree (t .free) x + hand x) →

@@ -62,6 +62,15 @@ module _ {A : Type 0} (key : A → ℕ) where
   rises-at b (x ∷ l) zero d r h = r .0
   rises-at b (x ∷ l) (suc i) d r h = omega (arith, r .0, rises-at (key x) l i d (r .1) (le-of-suc-le-suc h))
 
+  rises-suc : (b : ℕ) (l : List A) (i : ℕ) (d : A) → Rises key b l → suc i < length l → key (getD l i d) < key (getD l (suc i) d)
+  rises-suc b [] i d r h = absurd (omega arith)
+  rises-suc b (x ∷ l) zero d r h = rises-at (key x) l 0 d (r .1) (le-of-suc-le-suc h)
+  rises-suc b (x ∷ l) (suc i) d r h = rises-suc (key x) l i d (r .1) (le-of-suc-le-suc h)
+
+  -- the key at the next place is above this one's
+  pub rises-next : (b : ℕ) (l : List A) (i : ℕ) (d : A) → Rises key b l → i + 1 < length l → key (getD l i d) < key (getD l (i + 1) d)
+  rises-next b l i d r h = rw add-one (rises-suc b l i d r (omega arith))
+
   -- the one element of a key taken out, as the code does it: at its place
   pub without-key : (b : ℕ) (l : List A) (i : ℕ) (d : A) → Rises key b l → i < length l → without key (key (getD l i d)) l ≡ removeAt i l
   without-key b [] i d r h = absurd (omega arith)

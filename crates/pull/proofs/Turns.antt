@@ -1,20 +1,20 @@
 -- The loop of pull. While bytes lack, what is left of the order is the order of what is left; a rest stays only where nothing lacks any more.
 -- Assumes nothing.
 use mathlib.Core.Path.{_≡_, refl, ap, sym, _∙_}
-use mathlib.Core.List.{List, [], _∷_, append-nil}
+use mathlib.Core.List.{List, [], _∷_, _++_, append-nil}
 use mathlib.Core.Option.{Option, some, none}
-use Prim.Native.Nat.{ℕ, suc, _+_, _-_, _*_, _≤_, _<_, min}
+use Prim.Native.Nat.{ℕ, suc, _+_, _-_, _*_, _≤_, _<_, _^_, min}
 use native.Mathlib.Omega.{arith}
 use borrow.Author.Tests.{eq-eqb}
 use lib.ListN.{length, drop, getD, length-append, drop-of-length-le}
-use lib.Seq.{drop-append-le, getD-take}
+use lib.Seq.{drop-append-le}
 use Rattle.lists.specs.Tests.{Member}
 use Rattle.lists.proofs.Members.{member-all, sum-member, length-without}
-use Rattle.tables.specs.Values.{Tables, region, freeOf, zombiesOf}
-use Rattle.tables.specs.Kept.{KeptFree}
+use Rattle.tables.specs.Values.{Tables, region, freeOf, packFree, zombiesOf, packZombies, withFree}
+use Rattle.tables.specs.Kept.{KeptFree, KeptZombies}
 use Rattle.tables.specs.Steps.{Ending, on, ends}
 use Rattle.tables.specs.Choices.{chosen, Placed}
-use Rattle.tables.specs.InsertFree.{from, putRest, withoutFree}
+use Rattle.tables.specs.InsertFree.{from, upto, putRest, withoutFree}
 use Rattle.tables.specs.Pull.{pullOrder, pull}
 use Rattle.tables.specs.declared.FreeRegion.{FreeRegion}
 use Rattle.tables.specs.declared.FreeRegions.{FreeRegions}
@@ -23,21 +23,24 @@ use Rattle.tables.specs.declared.Zombies.{Zombies}
 use Rattle.tables.specs.declared.Choice.{Choice}
 use Rattle.tables.specs.declared.Choice.the-variants.{At, Nothing}
 use Rattle.tables.specs.declared.Outcome.{Outcome}
-use Rattle.tables.proofs.Packs.{free-count, free-pack, zombies-count, zombies-pack}
+use Rattle.tables.proofs.Packs.{free-count, free-kept, free-pack, zombies-count, zombies-kept, zombies-pack, zombies-packed-count}
 use Rattle.keeping.specs.Cover.{within, coverFree}
 use Rattle.keeping.specs.Sound.{WholeRange}
-use Rattle.keeping.proofs.Sounds.{sound-free, sound-range}
+use Rattle.keeping.proofs.Sounds.{sound-next, sound-free, sound-range}
+use Rattle.keeping.proofs.Rest.{length-putRest}
 use Rattle.keeping.proofs.Pull.{spansAfter, pulling-next}
+use Rattle.regions.specs.Cutting.{regionAt, Cuttable}
 use Rattle.regions.specs.Pulling.{besides, nextToPull}
 use Rattle.regions.specs.declared.Made.{Made}
 use Rattle.regions.proofs.Pulling.{pull-next, besides-without, rises-besides}
 use Rattle.driving.proofs.Endings.{ends-as}
 use Rattle.driving.specs.Ran.{Ran, Point, point}
 use Rattle.driving.specs.declared.Ended.the-variants.{On, Ends}
-use Rattle.driving.specs.Endings.{endingWith}
-use Rattle.pull.specs.Pulls.{pulling, partOf, Takeable, PullsOne, Pullable, Pulls}
+use Rattle.driving.specs.Endings.{ending}
+use Rattle.pull.specs.Pulls.{Settles, pulling, partOf, Pullable, Pulls}
+use Rattle.pull.specs.declared.Settled.{Settled}
 use Rattle.pull.specs.declared.Pulled.{Pulled}
-use Rattle.pull.proofs.Ways.{joinedTo, pulls-stop, pulls-on, joined-none, joined-more}
+use Rattle.pull.proofs.Ways.{joinedTo, pull-stop, pull-on, pulls-stop, pulls-on, joined-none, joined-more}
 
 -- Where the loop stands: `left` bytes lack, the regions of `order` are still to be pulled, and what the rest does the whole does.
 pub record Due (s lacks : ℕ) (made : Made) (xs : List ℕ) (f₀ : FreeRegions) (z₀ : Zombies) (k : ℕ) (l₀ : List ℕ)
@@ -101,45 +104,68 @@ module _ {s lacks : ℕ} {made : Made} {xs : List ℕ} {f₀ : FreeRegions} {z�
     pub room : n + 2 ≤ k + 2 * length (pullOrder s (besides made (freeOf f₀)))
     room = omega (arith, d .most, ap length more)
 
-    fewer : suc (length (withoutFree (from r) (freeOf f))) ≡ length (freeOf f)
+    -- the free regions without it
+    abbrev without-it : List FreeRegion
+    without-it = withoutFree (from r) (freeOf f)
+
+    fewer : suc (length without-it) ≡ length (freeOf f)
     fewer = length-without from 0 r (freeOf f) (now-due .due .sound .freeRises) here
 
-    pub takeable : Takeable r f z
-    takeable =
+    fits : length (freeOf f) ≤ 128
+    fits = omega (arith, now-due .due .few .spans, now-due .few)
+
+    pub zombie-fits : KeptZombies z × (z .count < 128)
+    zombie-fits = (now-due .zombies, omega (arith, zombies-count z (now-due .zombies), now-due .due .zombies))
+
+    ends-below : upto r ≤ 2 ^ 63
+    ends-below =
+        sound-range
+        (sound-free (now-due .due .sound) {hand′ = λ x. coverFree (freeOf f) x + now-due .hand x} {bare′ = λ x. coverFree (freeOf f) x + now-due .bare x} [] tt tt
+        (λ x. omega arith) (λ x h. omega arith) (λ i. omega arith) tt) (from r) (r .size) (wide .size .positive)
+        (λ x. omega (arith, sum-member (λ q. within (q .start .0) (q .size) x) r (freeOf f) here))
+
+    -- at its place in the table any part of it may be taken
+    pub cuttable : (at : ℕ) → at < f .count → regionAt f at ≡ r → (taken : ℕ) → taken ≤ r .size → Cuttable f at taken
+    cuttable at placed it taken le =
         record {
-          free = now-due .free;
-          zombies = now-due .zombies;
+          kept = now-due .free;
           rises = now-due .due .sound .freeRises;
-          ends = sound-range
-              (sound-free (now-due .due .sound) {hand′ = λ x. coverFree (freeOf f) x + now-due .hand x} {bare′ = λ x. coverFree (freeOf f) x + now-due .bare x} [] tt tt
-              (λ x. omega arith) (λ x h. omega arith) (λ i. omega arith) tt) (from r) (r .size) (wide .size .positive)
-              (λ x. omega (arith, sum-member (λ q. within (q .start .0) (q .size) x) r (freeOf f) here));
-          room = omega (arith, zombies-count z (now-due .zombies), now-due .due .zombies);
-          fewer = omega (arith, fewer, now-due .due .few .spans, now-due .few);
+          placed = placed;
+          enough = rw it le;
+          ends = rw it ends-below;
+          apart = λ h. sound-next (now-due .due .sound) at (region 0 0 0 0) (omega (arith, free-count f (now-due .free)));
         }
 
-    module _ (out : Pulled) (m : List ℕ) (p : PullsOne s left r xs f z n l out m) where
-      pub due-stop : {o : Outcome} → out .ended ≡ Ends o → Pulls s lacks made xs f₀ z₀ k l₀ out m
-      due-stop {o = o} e =
+    -- settling it ended as `o` says
+    module _ (o : Settled) (m : List ℕ) (p : Settles s r xs n l o m) where
+      pub due-stop : {q : Outcome} → o .ended ≡ Ends q → (out : Pulled) → out .free ≡ packFree (putRest (r .size) r without-it) → out .zombies ≡ z →
+          out .ended ≡ o .ended → out .made ≡ o .made → Pulls s lacks made xs f₀ z₀ k l₀ out m
+      due-stop {q = q} e out a b c g =
+          let a′ : out .free ≡ packFree without-it = a ∙ ap packFree (rw (eq-eqb (r .size) (r .size) refl)) in
           record {
-            ran = λ t. ends-as _ e (d .rest t (ends o) _ (rw more (pulls-stop r others s left positive (p .ran t) (ap (endingWith (partOf left r)) e))));
-            free = p .free;
-            zombies = p .zombies;
-            most = omega (arith, p .most, room);
+            ran = λ t. rw (ap freeOf a′ ∙ free-pack _, b, g)
+                (ends-as _ (c ∙ e) (d .rest t (ends q) _
+                (rw more (pulls-stop r others s left positive (pull-stop s left r (p .ran (withFree without-it (pulling f z t))) (ap ending e)) refl))));
+            free = rw a′ (free-kept _ (omega (arith, fewer, fits)));
+            zombies = rw b (now-due .zombies);
+            most = rw g (omega (arith, p .most, room));
           }
 
-      due-next : out .ended ≡ On → length m ≡ length l → Due s lacks made xs f₀ z₀ k l₀ (left - min left (r .size)) (out .free) (out .zombies) (out .made) m
+      due-next : o .ended ≡ On → length m ≡ length l →
+          Due s lacks made xs f₀ z₀ k l₀ (left - min left (r .size)) (packFree (putRest (partOf left r .size) r without-it))
+          (packZombies (zombiesOf z ++ partOf left r ∷ [])) (o .made) m
       due-next e q =
-          let free-is = ap freeOf (p .freeIs e) ∙ free-pack _ in
-          let zombies-are = ap zombiesOf (p .zombiesAre e) ∙ zombies-pack _ in
+          let free-is = free-pack (putRest (partOf left r .size) r without-it) in
+          let zombies-are = zombies-pack (zombiesOf z ++ partOf left r ∷ []) in
           let w = now-due in
           let longer = length-append (zombiesOf z) (partOf left r ∷ []) in
+          let parts = drop-append-le (z₀ .count) (zombiesOf z) (partOf left r ∷ []) (omega (arith, d .grown, zombies-count z (w .zombies))) in
           record {
             order = others;
             pullable =
                 record {
-                  free = p .free;
-                  zombies = p .zombies;
+                  free = free-kept _ (omega (arith, length-putRest (partOf left r .size) r without-it (omega arith), fewer, fits));
+                  zombies = zombies-kept _ (omega (arith, longer, zombies-count z (w .zombies), zombie-fits .1));
                   lost = w .lost;
                   hand = w .hand;
                   bare = λ x. w .bare x + within (from r) (min left (r .size)) x;
@@ -154,20 +180,23 @@ module _ {s lacks : ℕ} {made : Made} {xs : List ℕ} {f₀ : FreeRegions} {z�
             ordered = λ h. rw free-is (ordered-next h);
             same = q ∙ d .same;
             most = omega (arith, p .most, d .most, ap length more);
-            grown = omega (arith, d .grown, zombies-count z (w .zombies), zombies-count (out .zombies) (p .zombies), ap length zombies-are, longer);
+            grown = omega (arith, d .grown, zombies-count z (w .zombies), zombies-packed-count (zombiesOf z ++ partOf left r ∷ []), longer);
             rest = λ t g u a.
-                rw (zombies-are, drop-append-le (z₀ .count) (zombiesOf z) (partOf left r ∷ []) (omega (arith, d .grown, zombies-count z (w .zombies))), ← joined-more (drop (z₀ .count) (zombiesOf z)) (partOf left r) g)
-                (d .rest t (joinedTo (partOf left r ∷ []) g) u (rw more (pulls-on r others s left positive (p .ran t) (partOf left r) (ap (endingWith (partOf left r)) e) g a)));
+                rw (zombies-are, parts, ← joined-more (drop (z₀ .count) (zombiesOf z)) (partOf left r) g)
+                (d .rest t (joinedTo (partOf left r ∷ []) g) u
+                (rw more (pulls-on r others s left positive (pull-on s left r (p .ran (withFree without-it (pulling f z t))) (ap ending e)) (partOf left r) refl g
+                (rw (free-is, zombies-are) at a))));
           }
         where
-          ordered-next : 0 < left - min left (r .size) → others ≡ pullOrder s (besides made (putRest (partOf left r .size) r (withoutFree (from r) (freeOf f))))
+          ordered-next : 0 < left - min left (r .size) → others ≡ pullOrder s (besides made (putRest (partOf left r .size) r without-it))
           ordered-next h =
               let whole : r .size ≡ min left (r .size) = omega arith in
               rw (eq-eqb (r .size) (min left (r .size)) whole, besides-without made (from r) (freeOf f))
 
-      pub due-again : (left′ : ℕ) → left′ ≡ left - min left (r .size) → out .ended ≡ On → length m ≡ length l →
-          Due s lacks made xs f₀ z₀ k l₀ left′ (out .free) (out .zombies) (out .made) m
-      due-again left′ h e q = rw h (due-next e q)
+      pub due-again : o .ended ≡ On → length m ≡ length l → (part : Zombie) → part ≡ partOf left r →
+          (f′ : FreeRegions) → f′ ≡ packFree (putRest (part .size) r without-it) → (z′ : Zombies) → z′ ≡ packZombies (zombiesOf z ++ part ∷ []) →
+          Due s lacks made xs f₀ z₀ k l₀ (left - part .size) f′ z′ (o .made) m
+      due-again e q part y f′ a z′ b = rw (a, b, y) (due-next e q)
 
 -- what `next_to_pull` chose
 module _ (l : List FreeRegion) (o : Option FreeRegion) (c : Choice) (same : chosen (region 0 0 0 0) l c ≡ o) where
@@ -184,8 +213,3 @@ unfolding Placed
 placed-at f c i k p e =
     let b : i < length (freeOf f) = rw e at p in
     omega (arith, free-count f k)
-
--- the region in a cell, as its list has it
-pub cell-is : (f : FreeRegions) (i : ℕ) → i < f .count → getD (freeOf f) i (region 0 0 0 0) ≡ getD (f .cells) i (region 0 0 0 0)
-unfolding freeOf
-cell-is f i h = getD-take (f .count) (f .cells) i (region 0 0 0 0) h

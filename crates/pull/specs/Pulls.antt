@@ -1,13 +1,11 @@
 -- What the code that pulls regions needs, and what it promises.
-use mathlib.Core.Path.{_≡_}
-use mathlib.Core.List.{List, [], _∷_, _++_}
-use Prim.Native.Nat.{ℕ, _+_, _*_, _≤_, _<_, _^_, min}
+use mathlib.Core.List.{List}
+use Prim.Native.Nat.{ℕ, _+_, _*_, _≤_, min}
 use lib.ListN.{length, drop}
-use Rattle.lists.specs.Order.{Rises}
-use Rattle.tables.specs.Values.{Tables, zombie, freeOf, packFree, zombiesOf, packZombies, withFree, withZombies}
+use Rattle.tables.specs.Values.{Tables, zombie, freeOf, zombiesOf, withFree, withZombies}
 use Rattle.tables.specs.Kept.{KeptFree, KeptZombies}
-use Rattle.tables.specs.InsertFree.{from, upto, putRest, withoutFree}
-use Rattle.tables.specs.Pull.{pullOrder, settle, pullOne, pull}
+use Rattle.tables.specs.InsertFree.{from}
+use Rattle.tables.specs.Pull.{pullOrder, settle, pull}
 use Rattle.tables.specs.declared.FreeRegion.{FreeRegion}
 use Rattle.tables.specs.declared.FreeRegions.{FreeRegions}
 use Rattle.tables.specs.declared.Zombie.{Zombie}
@@ -17,7 +15,6 @@ use Rattle.regions.specs.Pulling.{besides}
 use Rattle.regions.specs.declared.Made.{Made}
 use Rattle.driving.specs.Ran.{Ran, point}
 use Rattle.driving.specs.Endings.{ending, endingWith}
-use Rattle.driving.specs.declared.Ended.the-variants.{On}
 use Rattle.pull.specs.declared.Settled.{Settled}
 use Rattle.pull.specs.declared.Pulled.{Pulled}
 
@@ -33,25 +30,6 @@ pulling f z t = withZombies (zombiesOf z) (withFree (freeOf f) t)
 -- the part of a region that is taken where `lacks` bytes are lacking
 abbrev pub partOf : ℕ → FreeRegion → Zombie
 partOf lacks r = zombie (from r) (min lacks (r .size)) (r .id .0)
-
--- Both tables are kept; the region ends where addresses end; there is room for the part taken and for the rest.
-pub record Takeable (r : FreeRegion) (f : FreeRegions) (z : Zombies) : Type 0 where
-  pub free : KeptFree f
-  pub zombies : KeptZombies z
-  pub rises : Rises from 0 (freeOf f)
-  pub ends : upto r ≤ 2 ^ 63
-  pub room : z .count < 128
-  pub fewer : length (withoutFree (from r) (freeOf f)) < 128
-
--- One region is pulled: the part taken is the last zombie.
-pub record PullsOne (s lacks : ℕ) (r : FreeRegion) (xs : List ℕ) (f : FreeRegions) (z : Zombies) (k : ℕ) (l : List ℕ) (d : Pulled) (m : List ℕ) : Type 0 where
-  pub ran : (t : Tables) →
-      Ran (pullOne s lacks r) xs (point k (pulling f z t) l) (endingWith (partOf lacks r) (d .ended)) (point (d .made) (pulling (d .free) (d .zombies) t) m)
-  pub free : KeptFree (d .free)
-  pub zombies : KeptZombies (d .zombies)
-  pub most : d .made ≤ k + 2
-  pub freeIs : d .ended ≡ On → d .free ≡ packFree (putRest (partOf lacks r .size) r (withoutFree (from r) (freeOf f)))
-  pub zombiesAre : d .ended ≡ On → d .zombies ≡ packZombies (zombiesOf z ++ partOf lacks r ∷ [])
 
 -- The regions of `l` can be pulled up to `lacks` bytes: both tables are kept, and there are tables around them in which they can.
 pub record Pullable (lacks : ℕ) (l : List FreeRegion) (f : FreeRegions) (z : Zombies) : Type 0 where

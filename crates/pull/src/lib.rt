@@ -5,16 +5,15 @@ ghost use lib.ListN.{length};
 ghost use Rattle.tables.specs.Values.{freeOf};
 ghost use Rattle.tables.specs.Pull.{pullOrder};
 ghost use Rattle.regions.specs.Pulling.{besides};
-ghost use Rattle.pull.specs.Pulls.{Settles, partOf, Takeable, PullsOne, Pullable, Pulls};
+ghost use Rattle.pull.specs.Pulls.{Settles, partOf, Pullable, Pulls};
 use driving::Asked;
 use driving::Ended;
 use driving::is_complete;
 use driving::must_tell;
 use entries::zombies::push_zombie;
 use regions::Made;
+use regions::cutting::cut_region;
 use regions::next_to_pull;
-use regions::put_rest;
-use regions::without_free;
 use tables::Choice;
 use tables::FreeRegion;
 use tables::FreeRegions;
@@ -85,43 +84,6 @@ fn part_of(region: FreeRegion, lacks: u64) -> Zombie
     }
 }
 
-// The region is taken out before it is settled: where that ends the call, it is in no table.
-fn pull_one(
-    free: FreeRegions,
-    zombies: Zombies,
-    region: FreeRegion,
-    stream: u64,
-    lacks: u64,
-    answers: &[u64],
-    log: &mut [u64],
-    made: usize,
-) -> Pulled
-    requires { ⌜ Takeable region free zombies × (4 * (made + 2) ≤ length (now log)) ⌝ }
-    ensures { λ r. ⌜ PullsOne stream lacks region (now (answers .entry)) free zombies made (now (log .entry)) r (now (log .exit)) ⌝ }
-{
-    let left = without_free(free, region.start);
-    let settled = settle(region, stream, answers, log, made);
-    let ended = settled.ended;
-    let n = settled.made;
-    let Ended::On = ended else {
-        return Pulled {
-            free: left,
-            zombies,
-            ended,
-            made: n,
-        };
-    };
-    let part = part_of(region, lacks);
-    let with_part = push_zombie(zombies, part);
-    let with_rest = put_rest(left, part.size, region);
-    Pulled {
-        free: with_rest,
-        zombies: with_part,
-        ended: Ended::On,
-        made: n,
-    }
-}
-
 // Pull regions, the same stream's first, then by id, but not the one just made, up to what lacks.
 pub fn pull(
     free: FreeRegions,
@@ -152,14 +114,21 @@ pub fn pull(
         };
         let region = fs.cells[at];
         let part = part_of(region, left);
-        let pulled = pull_one(fs, zs, region, stream, left, answers, log, n);
-        let ended = pulled.ended;
+        let settled = settle(region, stream, answers, log, n);
+        n = settled.made;
+        let ended = settled.ended;
         let Ended::On = ended else {
-            return pulled;
+            // where settling ends the call the region is in no table
+            fs = cut_region(fs, at, region.size);
+            return Pulled {
+                free: fs,
+                zombies: zs,
+                ended,
+                made: n,
+            };
         };
-        fs = pulled.free;
-        zs = pulled.zombies;
-        n = pulled.made;
+        fs = cut_region(fs, at, part.size);
+        zs = push_zombie(zs, part);
         left -= part.size;
     }
     Pulled {

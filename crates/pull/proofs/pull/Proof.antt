@@ -3,17 +3,19 @@
 use mathlib.Core.Path.{_≡_, refl, ap, _∙_}
 use mathlib.Core.List.{[]}
 use mathlib.Core.Option.{some}
-use Prim.Native.Nat.{_-_, _<_, _≤_, min}
+use Prim.Native.Nat.{ℕ, _<_, _≤_, min}
 use native.Mathlib.Omega.{arith}
 use borrow.Author.Needs.{needs}
 use lib.ListN.{getD}
 use Rattle.tables.specs.Values.{region, freeOf}
 use Rattle.tables.specs.declared.FreeRegion.{FreeRegion}
 use Rattle.driving.proofs.Ran.{gave}
+use Rattle.regions.specs.Cutting.{regionAt, Cuttable}
 use Rattle.regions.specs.Pulling.{besides, nextToPull}
 use Rattle.regions.proofs.Pulling.{pull-none}
+use Rattle.regions.proofs.Rests.{cell-is}
 use Rattle.pull.proofs.Ways.{pull-enough}
-use Rattle.pull.proofs.Turns.{Due, due-first, due-last, due-stop, due-again, part-some, room, takeable, chosen-some, chosen-none, placed-at, cell-is}
+use Rattle.pull.proofs.Turns.{Due, due-first, due-last, due-stop, due-again, part-some, room, zombie-fits, cuttable, chosen-some, chosen-none, placed-at}
 use Rattle.pull.proofs.pull.Statement.{statement}
 use Rattle.pull.proofs.pull.Tie as tie
 
@@ -36,11 +38,17 @@ module _ (c : tie.After-known-told Inv-loop μ-loop) where
       let q = c .before .before .before .next-to-pull in
       placed-at (turn .before .loop .fs) (q .result) _ (turn .before .loop .inv .pullable .free) (q .ensures .1) (c .before .choice .given .1)
 
+  same : regionAt (turn .before .loop .fs) (c .before .choice .given .0 .0) ≡ it
+  same = cell-is (turn .before .loop .fs) (c .before .choice .given .0 .0) placed
+
   next : let s = turn .before .before .before .before in nextToPull (s .args .stream) (besides (s .args .newly) (freeOf (turn .before .loop .fs))) ≡ some it
   next =
       let q = c .before .before .before .next-to-pull in
       chosen-some (freeOf (turn .before .loop .fs)) _ (q .result) (q .ensures .0) _ (c .before .choice .given .1)
-      ∙ ap some (cell-is (turn .before .loop .fs) (c .before .choice .given .0 .0) placed)
+      ∙ ap some same
+
+  cut : (taken : ℕ) → taken ≤ it .size → Cuttable (turn .before .loop .fs) (c .before .choice .given .0 .0) taken
+  cut = cuttable (turn .before .loop .inv) (turn .loop-test .taken) it next (c .before .choice .given .0 .0) placed same
 
 -- what is taken of it
 part-is : (c : tie.After-part-of Inv-loop μ-loop) → c .part-of .result .size ≡ min (turn (c .before .before) .before .loop .left) (it (c .before .before) .size)
@@ -51,6 +59,13 @@ part-some-of c =
     let d = c .before .before in
     let b = part-some (turn d .before .loop .inv) (turn d .loop-test .taken) (it d) (next d) in
     (omega (arith, b .0, part-is c), omega (arith, b .1, part-is c))
+
+-- back from the settling of a region to its choice, and from the end of a turn to the part
+abbrev choice-of : tie.After-settle Inv-loop μ-loop → tie.After-known-told Inv-loop μ-loop
+choice-of c = c .before .before .before .before
+
+abbrev parting-of : tie.After-struct-known Inv-loop μ-loop → tie.After-part-of Inv-loop μ-loop
+parting-of c = c .before .before .before .before .before .before .before .before .before
 
 loop-holds : tie.Need-loop-holds Inv-loop μ-loop
 loop-holds c = due-first _ _ _ _ _ _ _ _ (c .before .before .pre .0)
@@ -86,13 +101,12 @@ element-copy-out-region c = omega (arith, placed c, turn c .before .loop .inv .p
 part-of-requires : tie.Need-part-of-requires Inv-loop μ-loop
 part-of-requires c κs = search needs
 
-pull-one-requires : tie.Need-pull-one-requires Inv-loop μ-loop
-pull-one-requires c κs =
+settle-requires : tie.Need-settle-requires Inv-loop μ-loop
+settle-requires c κs =
     let k = c .before .before .before in
     let i = turn k in
     let d = i .before .loop .inv in
-    let h = i .loop-test .taken in
-    (takeable d h (it k) (next k), omega (arith, room d h (it k) (next k), d .same, i .before .before .before .before .pre .1))
+    omega (arith, room d (i .loop-test .taken) (it k) (next k), d .same, i .before .before .before .before .pre .1)
 
 enum-told-2 : tie.Need-enum-told-2 Inv-loop μ-loop
 enum-told-2 c = search needs
@@ -100,32 +114,48 @@ enum-told-2 c = search needs
 enum-told-3 : tie.Need-enum-told-3 Inv-loop μ-loop
 enum-told-3 c = search needs
 
+cut-region-requires : tie.Need-cut-region-requires Inv-loop μ-loop
+cut-region-requires c κs = cut (choice-of (c .before .before .before .before)) _ (omega arith)
+
 same-length-2 : tie.Need-same-length-2 Inv-loop μ-loop
 same-length-2 c = search needs
 
 returns-2 : tie.Need-returns-2 Inv-loop μ-loop
 returns-2 c =
-    let w = c .before .before .before .before in
-    let k = w .before .before .before .before in
+    let w = c .before .before .before .before .before in
+    let k = choice-of w in
     let i = turn k in
-    due-stop (i .before .loop .inv) (i .loop-test .taken) (it k) (next k) _ _ (w .pull-one .ensures) (c .enum-told3 .given .1)
+    due-stop (i .before .loop .inv) (i .loop-test .taken) (it k) (next k) _ _ (w .settle .ensures) (c .before .enum-told3 .given .1) _
+    (rw (same k) at (c .cut-region .ensures)) refl refl refl
+
+cut-region-requires-2 : tie.Need-cut-region-requires-2 Inv-loop μ-loop
+cut-region-requires-2 c κs =
+    let w = c .before .before .before .before in
+    cut (choice-of w) _ (omega (arith, part-is (w .before .before)))
+
+push-zombie-requires : tie.Need-push-zombie-requires Inv-loop μ-loop
+push-zombie-requires c κs =
+    let k = choice-of (c .before .before .before .before .before) in
+    let i = turn k in
+    zombie-fits (i .before .loop .inv) (i .loop-test .taken) (it k) (next k)
 
 sub-left : tie.Need-sub-left Inv-loop μ-loop
-sub-left c = omega (arith, part-some-of (c .before .before .before .before .before .before .before .before .before) .1)
+sub-left c = omega (arith, part-some-of (parting-of c) .1)
 
 loop-less : tie.Need-loop-less Inv-loop μ-loop
 loop-less c =
-    let b = part-some-of (c .before .before .before .before .before .before .before .before .before) in
+    let b = part-some-of (parting-of c) in
     omega (arith, b .0, b .1)
 
 loop-again : tie.Need-loop-again Inv-loop μ-loop
 loop-again c =
-    let w = c .before .before .before .before .before .before .before in
+    let g = c .before .before in
+    let w = g .before .before .before .before .before in
     let p = w .before .before in
-    let k = p .before .before in
+    let k = choice-of w in
     let i = turn k in
-    due-again (i .before .loop .inv) (i .loop-test .taken) (it k) (next k) _ _ (w .pull-one .ensures) _
-    (ap (λ y. i .before .loop .left - y) (part-is p)) (c .before .before .before .enum-told2 .given .1) (omega (arith, w .pull-one .kept .1 .1 .1 .1 .1 .1 .0))
+    due-again (i .before .loop .inv) (i .loop-test .taken) (it k) (next k) _ _ (w .settle .ensures) (g .before .enum-told2 .given .1)
+    (omega (arith, w .settle .kept .1 .1 .1 .0)) _ (p .part-of .ensures) _ (rw (same k) at (g .cut-region2 .ensures)) _ (c .before .push-zombie .ensures)
 
 same-length-3 : tie.Need-same-length-3 Inv-loop μ-loop
 same-length-3 c = search needs
@@ -151,11 +181,14 @@ pull-spec =
     mul-region
     element-copy-out-region
     part-of-requires
-    pull-one-requires
+    settle-requires
     enum-told-2
     enum-told-3
+    cut-region-requires
     same-length-2
     returns-2
+    cut-region-requires-2
+    push-zombie-requires
     sub-left
     loop-less
     loop-again
