@@ -1,7 +1,9 @@
 pub mod Store
+pub mod Replaced
+pub mod Cell
 pub mod Apart
-pub mod Glue
 pub mod Insert
+pub mod Joins
 pub mod Full
 pub mod Cut
 pub mod Ordered
