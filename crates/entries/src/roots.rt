@@ -4,8 +4,8 @@ use tables::Roots;
 use words::Address;
 ghost use mathlib.Core.Path.{_≡_};
 ghost use mathlib.Core.List.{[], _∷_, _++_};
-ghost use Prim.Native.Nat.{_+_, _-_, _≤_, _<_, _^_};
-ghost use Rattle.lists.specs.Tests.{All, every};
+ghost use Prim.Native.Nat.{_≤_, _<_, _^_};
+ghost use Rattle.lists.specs.Tests.{every};
 ghost use Rattle.tables.specs.Values.{rootsOf, packRoots};
 ghost use Rattle.tables.specs.Kept.{KeptRoots};
 ghost use Rattle.tables.specs.TakeRange.{apart, credibleFor};
@@ -36,20 +36,19 @@ pub fn roots_cleared(t: Roots) -> Roots
     out
 }
 
-// Whether two roots have no address in common.
-fn is_apart(va: u64, a: u64, b: u64) -> bool
-    requires { ⌜ (a + va ≤ 2 ^ 63) × (b + va ≤ 2 ^ 63) ⌝ }
+// Whether two roots have no address in common. The difference is tested: the sum could pass the largest number.
+pub fn is_apart(va: u64, a: u64, b: u64) -> bool
     ensures { λ r. ⌜ r ≡ apart va a b ⌝ }
 {
-    if a + va <= b {
-        return true;
+    if a <= b {
+        return va <= b - a;
     }
-    b + va <= a
+    va <= a - b
 }
 
 // Whether a root at a base has no address in common with any in the table.
 fn is_apart_from_all(t: Roots, va: u64, base: u64) -> bool
-    requires { ⌜ KeptRoots t × ((base + va ≤ 2 ^ 63) × All (λ a. a .0 + va ≤ 2 ^ 63) (rootsOf t)) ⌝ }
+    requires { ⌜ KeptRoots t ⌝ }
     ensures { λ r. ⌜ r ≡ every (λ a. apart va base (a .0)) (rootsOf t) ⌝ }
 {
     let count = t.count;
@@ -66,7 +65,7 @@ fn is_apart_from_all(t: Roots, va: u64, base: u64) -> bool
 
 // Whether the base of a new root is to be believed: not 0, aligned, ending at or below 2^63, overlapping no root.
 pub fn is_credible(t: Roots, base: u64, page: u64, va: u64) -> bool
-    requires { ⌜ (KeptRoots t × (0 < page)) × ((va ≤ 2 ^ 46) × All (λ a. a .0 ≤ 2 ^ 63 - va) (rootsOf t)) ⌝ }
+    requires { ⌜ (KeptRoots t × (0 < page)) × (va ≤ 2 ^ 46) ⌝ }
     ensures { λ r. ⌜ r ≡ credibleFor page va base (rootsOf t) ⌝ }
 {
     if base == 0 {

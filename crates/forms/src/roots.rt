@@ -11,18 +11,9 @@ ghost use Rattle.forms.specs.InOrder.{isInside, rootsPass};
 use crate::numbers::higher_of;
 use crate::numbers::is_whole;
 use crate::numbers::lower_of;
+use entries::roots::is_apart;
 use tables::Pool;
 use tables::Roots;
-
-// Two roots have no address in common. The difference is tested: the sum could pass the largest number.
-fn is_apart(va: u64, a: u64, b: u64) -> bool
-    ensures { λ r. ⌜ r ≡ apart va a b ⌝ }
-{
-    if a <= b {
-        return va <= b - a;
-    }
-    va <= a - b
-}
 
 // Roots aligned, nonzero, ending at or below 2^63.
 fn roots_aligned(t: Roots, page: u64, va: u64) -> bool

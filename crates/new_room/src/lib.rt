@@ -16,6 +16,7 @@ use insert_free::insert_free;
 use new_pages::Room;
 use new_pages::make_pages;
 use regions::free_bytes;
+use regions::missing_of;
 use tables::Pool;
 use take_range::take_range;
 use words::Word;
@@ -26,16 +27,6 @@ pub struct RoomTaken {
     pub room: Room,
     pub ended: Ended,
     pub made: usize,
-}
-
-// Missing = requested minus all free bytes, not below 0.
-fn missing_of(free: u64, requested: u64) -> u64
-    ensures { λ r. ⌜ r ≡ requested - free ⌝ }
-{
-    if free < requested {
-        return requested - free;
-    }
-    0
 }
 
 // Take the smallest sufficient hole, else reserve a root; per missing page create, map.

@@ -8,8 +8,7 @@ use borrow.Author.Tests.{leb-true}
 use lib.Dec.{leb, eqb}
 use lib.ListN.{getD, length-append}
 use lib.Seq.{getD-take}
-use Rattle.lists.specs.Tests.{All}
-use Rattle.lists.proofs.Tests.{both, all-implies}
+use Rattle.lists.proofs.Tests.{both}
 use Rattle.words.specs.declared.Address.{Address}
 use Rattle.tables.specs.Values.{hole, holesOf, packHoles, rootsOf, packRoots}
 use Rattle.tables.specs.Kept.{KeptHoles, KeptRoots}
@@ -18,7 +17,6 @@ use Rattle.tables.specs.TakeRange.{cutHole, credibleFor}
 use Rattle.tables.specs.declared.Holes.{Holes}
 use Rattle.tables.specs.declared.Roots.{Roots}
 use Rattle.tables.proofs.Packs.{holes-count, holes-kept, roots-count, roots-kept}
-use Rattle.keeping.specs.Sound.{Whole}
 use Rattle.keeping.proofs.Holes.{length-hole, length-cutHole}
 use Rattle.take_range.specs.Taking.{Takeable}
 
@@ -41,11 +39,6 @@ module _ {page va n : ℕ} {h : Holes} {r : Roots} (c : Takeable page va n h r) 
 
   pub va-small : va ≤ 2 ^ 46
   va-small = omega (arith, c .kept .sound .small, c .vaIs)
-
-  pub roots-end : All (λ a. a .0 ≤ 2 ^ 63 - va) (rootsOf r)
-  roots-end =
-      all-implies (λ a. Whole (c .around .page) (a .0) × (a .0 + c .around .va ≤ 2 ^ 63)) (λ a. a .0 ≤ 2 ^ 63 - va)
-      (λ a w. omega (arith, w .1, c .vaIs)) (rootsOf r) (c .kept .sound .roots)
 
   pub kept-rest : (a m : ℕ) → KeptHoles (packHoles (insertHole a m (holesOf h)))
   kept-rest a m = holes-kept _ (omega (arith, length-hole a m (holesOf h), holes-count h (c .holes), c .room))

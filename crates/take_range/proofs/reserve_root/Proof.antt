@@ -11,7 +11,7 @@ use Rattle.tables.proofs.Packs.{holes-pack, roots-pack}
 use Rattle.driving.specs.declared.Ended.the-variants.{On}
 use Rattle.take_range.specs.Taking.{reserveEnded, taking}
 use Rattle.take_range.proofs.Ways.{root-refused, root-incredible, root-on}
-use Rattle.take_range.proofs.Sounds.{credible-ends, page-positive, va-small, roots-end, kept-rest, kept-root}
+use Rattle.take_range.proofs.Sounds.{credible-ends, page-positive, va-small, kept-rest, kept-root}
 use Rattle.take_range.proofs.reserve_root.Statement.{statement}
 use Rattle.take_range.proofs.reserve_root.Tie as tie
 
@@ -70,7 +70,7 @@ value-requires c κs = search needs
 is-credible-requires : tie.Need-is-credible-requires
 is-credible-requires c κs =
     let k = at-entry (c .before .before .before) .pre .0 in
-    ((k .roots, page-positive k), (va-small k, roots-end k))
+    ((k .roots, page-positive k), va-small k)
 
 same-length-2 : tie.Need-same-length-2
 same-length-2 c = search needs

@@ -6,7 +6,7 @@ use borrow.Author.Tests.{not-true, not-false}
 use Prim.Native.Nat.{_+_, _-_, _≤_}
 use lib.ListN.{length, drop}
 use Rattle.lists.specs.Tests.{every}
-use Rattle.lists.proofs.Tests.{length-mapped, all-cell}
+use Rattle.lists.proofs.Tests.{length-mapped}
 use Rattle.lists.proofs.Cells.{turn, ends}
 use Rattle.tables.specs.Values.{address, rootsOf}
 use Rattle.tables.specs.TakeRange.{apart}
@@ -33,12 +33,7 @@ element-copy-out-a : tie.Need-element-copy-out-a Inv-loop μ-loop
 element-copy-out-a c = search needs
 
 is-apart-requires : tie.Need-is-apart-requires Inv-loop μ-loop
-unfolding rootsOf
-is-apart-requires c κs =
-    let v = c .before .before in
-    let t = v .before .args .t1 in
-    let k = v .before .pre in
-    (k .1 .0, all-cell _ (t .count) (t .cells) (v .loop .i) (address 0) (k .1 .1) (omega arith) (omega arith))
+is-apart-requires c κs = search needs
 
 -- what the test of all comes to at a turn
 here : (c : tie.After-is-apart Inv-loop μ-loop) →

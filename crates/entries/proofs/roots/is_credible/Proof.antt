@@ -1,12 +1,8 @@
 -- `entries::roots::is_credible` meets its contract: each test is one of the definition's, and the base's end is tested by a difference, so that no
 -- sum overflows. Assumes nothing.
 use mathlib.Core.Bool.{and-false}
-use Prim.Native.Nat.{_+_, _-_, _≤_, _^_}
 use borrow.Author.Tests.{eq-eqb, ne-eqb, le-leb, lt-leb}
-use Rattle.lists.proofs.Tests.{all-implies}
-use Rattle.tables.specs.Values.{rootsOf}
 use borrow.Author.Needs.{needs}
-use native.Mathlib.Omega.{arith}
 use Rattle.entries.proofs.roots.is_credible.Statement.{statement}
 use Rattle.entries.proofs.roots.is_credible.Tie as tie
 
@@ -26,11 +22,7 @@ returns-3 : tie.Need-returns-3
 returns-3 c = simp (lt-leb _ _ (c .if3 .taken), and-false)
 
 is-apart-from-all-requires : tie.Need-is-apart-from-all-requires
-is-apart-from-all-requires c κs =
-    let s = c .before .before .before in
-    let a = s .args in
-    let k = s .pre in
-    (k .0 .0, (omega arith, all-implies (λ r. r .0 ≤ 2 ^ 63 - a .va) (λ r. r .0 + a .va ≤ 2 ^ 63) (λ r h. omega (arith, k .1 .0)) (rootsOf (a .t)) (k .1 .1)))
+is-apart-from-all-requires c κs = search needs
 
 returns-4 : tie.Need-returns-4
 returns-4 c =
