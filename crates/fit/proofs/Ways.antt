@@ -3,17 +3,13 @@ use mathlib.Core.Path.{_≡_}
 use mathlib.Core.Bool.{cond}
 use mathlib.Core.List.{List, map}
 use mathlib.Core.Option.{Option, some, none}
-use Prim.Native.Nat.{ℕ, _<_}
+use Prim.Native.Nat.{ℕ}
 use lib.Dec.{eqb}
-use lib.ListN.{length, getD}
-use Rattle.tables.specs.Values.{region, withFree}
-use Rattle.tables.specs.Choices.{chosen, Placed}
+use Rattle.tables.specs.Values.{withFree}
 use Rattle.tables.specs.Steps.{Ending, on}
 use Rattle.tables.specs.InsertFree.{from}
 use Rattle.tables.specs.Pull.{ownOf}
 use Rattle.tables.specs.Fit.{candidates, smallest, askAll, onStream, takeOver, orOther, fit}
-use Rattle.tables.specs.declared.Choice.{Choice}
-use Rattle.tables.specs.declared.Choice.the-variants.{At, Nothing}
 use Rattle.tables.specs.declared.FreeRegion.{FreeRegion}
 use Rattle.tables.specs.declared.Outcome.{Outcome}
 use Rattle.driving.specs.Ran.{Ran, Point, point}
@@ -23,20 +19,6 @@ use Rattle.driving.proofs.Ran.{next, gave, looked, changed}
 use Rattle.driving.specs.Endings.{endingWith}
 use Rattle.fit.specs.Fitting.{smallestComplete}
 use Rattle.fit.proofs.Runs.{map-next, map-stop}
-
--- what a choice by place chose
-module _ (l : List FreeRegion) (c : Choice) where
-  pub chosen-at : (i : ℕ) → c ≡ At i → chosen (region 0 0 0 0) l c ≡ some (getD l i (region 0 0 0 0))
-  unfolding chosen
-  chosen-at i e = rw e
-
-  pub chosen-none : c ≡ Nothing → chosen (region 0 0 0 0) l c ≡ none
-  unfolding chosen
-  chosen-none e = rw e
-
-  pub placed-at : (i : ℕ) → Placed l c → c ≡ At i → i < length l
-  unfolding Placed
-  placed-at i p e = rw e at p
 
 -- every candidate was asked, which ended as `d` and found `o`
 module _ {xs : List ℕ} {s v : Point} (st : ℕ) (l : List FreeRegion) (o : Option FreeRegion) (d : Ended)

@@ -1,7 +1,6 @@
 // Make room, the new pages: a range is taken, its missing pages are made and inserted as free.
 ghost use mathlib.Core.Option.{some};
-ghost use mathlib.Core.Path.{_≡_};
-ghost use Prim.Native.Nat.{_+_, _-_, _*_, _≤_};
+ghost use Prim.Native.Nat.{_+_, _*_, _≤_};
 ghost use lib.ListN.{length};
 ghost use Rattle.tables.specs.NewPages.{insertNew};
 ghost use Rattle.driving.specs.Endings.{endingWith};

@@ -4,19 +4,14 @@ ghost use mathlib.Core.Path.{_≡_};
 ghost use mathlib.Core.Bool.{true};
 ghost use Prim.Native.Nat.{_≤_};
 ghost use Rattle.lists.specs.Order.{sorted};
-ghost use Rattle.tables.specs.Values.{region, buffer, hole, zombie, page, freeOf, liveOf, holesOf, pagesOf};
+ghost use Rattle.tables.specs.Values.{freeOf, liveOf, holesOf, pagesOf};
 ghost use Rattle.tables.specs.Kept.{KeptFree, KeptLive, KeptHoles, KeptZombies, KeptPages, KeptRoots};
-use tables::FreeRegion;
 use tables::FreeRegions;
-use tables::Hole;
 use tables::Holes;
-use tables::LiveBuffer;
 use tables::LiveBuffers;
-use tables::Page;
 use tables::Pages;
 use tables::Pool;
 use tables::Roots;
-use tables::Zombie;
 use tables::Zombies;
 
 pub fn regions_stand(t: FreeRegions) -> bool

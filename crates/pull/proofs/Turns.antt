@@ -1,19 +1,19 @@
 -- The loop of pull. While bytes lack, what is left of the order is the order of what is left; a rest stays only where nothing lacks any more.
 -- Assumes nothing.
-use mathlib.Core.Path.{_≡_, refl, ap, sym, _∙_}
+use mathlib.Core.Path.{_≡_, refl, ap, _∙_}
 use mathlib.Core.List.{List, [], _∷_, _++_, append-nil}
-use mathlib.Core.Option.{Option, some, none}
+use mathlib.Core.Option.{some}
 use Prim.Native.Nat.{ℕ, suc, _+_, _-_, _*_, _≤_, _<_, _^_, min}
 use native.Mathlib.Omega.{arith}
 use borrow.Author.Tests.{eq-eqb}
-use lib.ListN.{length, drop, getD, length-append, drop-of-length-le}
+use lib.ListN.{length, drop, length-append, drop-of-length-le}
 use lib.Seq.{drop-append-le}
 use Rattle.lists.specs.Tests.{Member}
 use Rattle.lists.proofs.Members.{member-all, sum-member, length-without}
 use Rattle.tables.specs.Values.{Tables, region, freeOf, packFree, zombiesOf, packZombies, withFree}
 use Rattle.tables.specs.Kept.{KeptFree, KeptZombies}
 use Rattle.tables.specs.Steps.{Ending, on, ends}
-use Rattle.tables.specs.Choices.{chosen, Placed}
+use Rattle.tables.specs.Choices.{Placed}
 use Rattle.tables.specs.InsertFree.{from, upto, putRest, withoutFree}
 use Rattle.tables.specs.Pull.{pullOrder, pull}
 use Rattle.tables.specs.declared.FreeRegion.{FreeRegion}
@@ -21,8 +21,9 @@ use Rattle.tables.specs.declared.FreeRegions.{FreeRegions}
 use Rattle.tables.specs.declared.Zombie.{Zombie}
 use Rattle.tables.specs.declared.Zombies.{Zombies}
 use Rattle.tables.specs.declared.Choice.{Choice}
-use Rattle.tables.specs.declared.Choice.the-variants.{At, Nothing}
+use Rattle.tables.specs.declared.Choice.the-variants.{At}
 use Rattle.tables.specs.declared.Outcome.{Outcome}
+use Rattle.tables.proofs.Choices.{placed-at}
 use Rattle.tables.proofs.Packs.{free-count, free-kept, free-pack, zombies-count, zombies-kept, zombies-pack, zombies-packed-count}
 use Rattle.keeping.specs.Cover.{within, coverFree}
 use Rattle.keeping.specs.Sound.{WholeRange}
@@ -198,18 +199,6 @@ module _ {s lacks : ℕ} {made : Made} {xs : List ℕ} {f₀ : FreeRegions} {z�
           Due s lacks made xs f₀ z₀ k l₀ (left - part .size) f′ z′ (o .made) m
       due-again e q part y f′ a z′ b = rw (a, b, y) (due-next e q)
 
--- what `next_to_pull` chose
-module _ (l : List FreeRegion) (o : Option FreeRegion) (c : Choice) (same : chosen (region 0 0 0 0) l c ≡ o) where
-  pub chosen-some : (i : ℕ) → c ≡ At i → o ≡ some (getD l i (region 0 0 0 0))
-  unfolding chosen
-  chosen-some i e = sym (rw e at same)
-
-  pub chosen-none : c ≡ Nothing → o ≡ none
-  unfolding chosen
-  chosen-none e = sym (rw e at same)
-
-pub placed-at : (f : FreeRegions) (c : Choice) (i : ℕ) → KeptFree f → Placed (freeOf f) c → c ≡ At i → i < f .count
-unfolding Placed
-placed-at f c i k p e =
-    let b : i < length (freeOf f) = rw e at p in
-    omega (arith, free-count f k)
+-- a place that `next_to_pull` chose is below the count
+pub place-below : (f : FreeRegions) (c : Choice) (i : ℕ) → KeptFree f → Placed (freeOf f) c → c ≡ At i → i < f .count
+place-below f c i k p e = omega (arith, placed-at (freeOf f) c i p e, free-count f k)

@@ -1,4 +1,5 @@
 pub mod Packs
+pub mod Choices
 pub mod AToN
 pub mod Beyond
 pub mod Misreadings

@@ -4,21 +4,17 @@ use mathlib.Core.Path.{_≡_, sym, _∙_}
 use mathlib.Core.Bool.{true, false, not}
 use mathlib.Core.List.{List, [], _∷_, _++_}
 use mathlib.Core.Option.{some, none}
-use Prim.Native.Nat.{ℕ, _+_, _-_, _<_}
-use lib.ListN.{length, getD}
+use Prim.Native.Nat.{ℕ, _+_, _-_}
 use Rattle.words.specs.Answers.{valueOf}
 use Rattle.words.specs.declared.Address.{Address}
 use Rattle.words.specs.declared.Answer.{Answer}
 use Rattle.words.specs.declared.Answer.the-variants.{Done, Failed, Missing}
-use Rattle.tables.specs.Values.{Tables, address, hole, withHoles, withRoots}
+use Rattle.tables.specs.Values.{Tables, address, withHoles, withRoots}
 use Rattle.tables.specs.InsertHole.{from, insertHole}
 use Rattle.tables.specs.Steps.{Ending, on, ends}
 use Rattle.tables.specs.Driver.{heard, reserve}
 use Rattle.tables.specs.TakeRange.{smallestHole, cutHole, credibleFor, credible, reserveRoot, takeHole, takeRange}
-use Rattle.tables.specs.Choices.{chosen, Placed}
 use Rattle.tables.specs.declared.Hole.{Hole}
-use Rattle.tables.specs.declared.Choice.{Choice}
-use Rattle.tables.specs.declared.Choice.the-variants.{At, Nothing}
 use Rattle.tables.specs.declared.Outcome.{Outcome}
 use Rattle.tables.specs.declared.Outcome.the-variants.{Incredible}
 use Rattle.driving.specs.Ran.{Ran, Point, point}
@@ -58,20 +54,6 @@ module _ {xs : List ℕ} {k : ℕ} {t : Tables} {l m : List ℕ} (page va n : �
       rw (q, ← v) (next _ looked (next _ (rw (← v) at r) (next _ gave (next _ (passed _ so gave) (next _ (changed _) (next _ (changed _) gave))))))
   root-on (Failed c) r e b q d = not-on e
   root-on Missing r e b q d = not-on e
-
--- what `smallest_hole` chose, as the rule has it
-module _ (n : ℕ) (l : List Hole) (c : Choice) (same : chosen (hole 0 0) l c ≡ smallestHole n l) where
-  pub chosen-some : (i : ℕ) → c ≡ At i → smallestHole n l ≡ some (getD l i (hole 0 0))
-  unfolding chosen
-  chosen-some i e = sym (rw e at same)
-
-  pub chosen-none : c ≡ Nothing → smallestHole n l ≡ none
-  unfolding chosen
-  chosen-none e = sym (rw e at same)
-
-pub placed-at : (l : List Hole) (c : Choice) (i : ℕ) → Placed l c → c ≡ At i → i < length l
-unfolding Placed
-placed-at l c i p e = rw e at p
 
 pub took-root : {xs : List ℕ} {s u : Point} {e : Ending ℕ} (n : ℕ) → smallestHole n (s .tables .holes) ≡ none →
     Ran (reserveRoot n) xs s e u → Ran (takeRange n) xs s e u

@@ -1,6 +1,6 @@
 -- `fit::fit` meets its contract: the region chosen by place is the rule's, and where there is none the region of another stream is the rule's.
 -- Assumes nothing.
-use mathlib.Core.Path.{_≡_, sym, _∙_}
+use mathlib.Core.Path.{_≡_}
 use mathlib.Core.Option.{some}
 use Prim.Native.Nat.{_<_}
 use native.Mathlib.Omega.{arith}
@@ -11,7 +11,8 @@ use Rattle.tables.specs.Pull.{ownOf}
 use Rattle.tables.specs.Fit.{candidates, smallest}
 use Rattle.tables.proofs.Packs.{free-count}
 use Rattle.fit.proofs.Turns.{cell-is}
-use Rattle.fit.proofs.Ways.{chosen-at, chosen-none, placed-at, fit-own, fit-other}
+use Rattle.tables.proofs.Choices.{chosen-some, chosen-none, placed-at}
+use Rattle.fit.proofs.Ways.{fit-own, fit-other}
 use Rattle.fit.proofs.fit.Statement.{statement}
 use Rattle.fit.proofs.fit.Tie as tie
 
@@ -37,7 +38,7 @@ own-is : (c : tie.After-known-told) →
     smallest (ownOf (a .stream) (candidates (a .requested) (freeOf (a .t1)))) ≡ some (getD (freeOf (a .t1)) (c .before .own .given .0 .0) (region 0 0 0 0))
 own-is c =
     let q = choosing c in
-    sym (q .best-own .ensures .0) ∙ chosen-at (freeOf (at-entry q .args .t1)) (q .best-own .result) _ (c .before .own .given .1)
+    chosen-some (region 0 0 0 0) (freeOf (at-entry q .args .t1)) (q .best-own .result) _ (q .best-own .ensures .0) _ (c .before .own .given .1)
 
 best-own-requires : tie.Need-best-own-requires
 best-own-requires c κs = search needs
@@ -60,7 +61,7 @@ returns c =
     let q = w .before .before .before .before in
     let s = at-entry q in
     let m = w .fit-other .ensures in
-    let none-own = sym (q .best-own .ensures .0) ∙ chosen-none (freeOf (s .args .t1)) (q .best-own .result) (w .before .before .enum-told .given .1) in
+    let none-own = chosen-none (region 0 0 0 0) (freeOf (s .args .t1)) (q .best-own .result) _ (q .best-own .ensures .0) (w .before .before .enum-told .given .1) in
     record {
       ran = λ t. fit-other (s .args .requested) (s .args .stream) none-own (m .ran t);
       free = m .free;

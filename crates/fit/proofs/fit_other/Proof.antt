@@ -1,5 +1,5 @@
 -- `fit::fit_other` meets its contract: each way out of it is a way of the rule, after the search of the candidates. Assumes nothing.
-use mathlib.Core.Path.{ap, _∙_}
+use mathlib.Core.Path.{ap, refl, _∙_}
 use mathlib.Core.List.{map}
 use Prim.Native.Nat.{_<_}
 use native.Mathlib.Omega.{arith}
@@ -11,7 +11,8 @@ use Rattle.tables.specs.declared.FreeRegion.{FreeRegion}
 use Rattle.tables.specs.declared.FreeRegions.{FreeRegions}
 use Rattle.tables.proofs.Packs.{free-pack, free-count, free-kept}
 use Rattle.fit.proofs.Turns.{cell-is}
-use Rattle.fit.proofs.Ways.{chosen-at, chosen-none, placed-at, other-stop, other-none, other-some}
+use Rattle.tables.proofs.Choices.{chosen-some, chosen-none, placed-at}
+use Rattle.fit.proofs.Ways.{other-stop, other-none, other-some}
 use Rattle.fit.proofs.fit_other.Statement.{statement}
 use Rattle.fit.proofs.fit_other.Tie as tie
 
@@ -72,7 +73,7 @@ returns-2 c =
     let m = q .smallest-complete .ensures in
     record {
       ran = λ t. other-none (s .args .stream) _ _ (q .smallest-complete .result .ended) (m .ran t) (w .enum-told .given .1)
-          (chosen-none (freeOf (s .args .t1)) (q .smallest-complete .result .choice) (c .enum-told3 .given .1));
+          (chosen-none (region 0 0 0 0) (freeOf (s .args .t1)) (q .smallest-complete .result .choice) _ refl (c .enum-told3 .given .1));
       free = s .pre .0 .free;
       most = m .most;
     }
@@ -105,7 +106,7 @@ returns-3 c =
     record {
       ran = λ t. rw (ap freeOf over ∙ free-pack _, cell-is (s .args .t1) (placed d))
           (other-some (s .args .stream) _ _ (q .smallest-complete .result .ended) (m .ran t) (w .enum-told .given .1) (getD l i (region 0 0 0 0))
-          (chosen-at l (q .smallest-complete .result .choice) i (d .before .choice .given .1)));
+          (chosen-some (region 0 0 0 0) l (q .smallest-complete .result .choice) _ refl i (d .before .choice .given .1)));
       free = rw over (kept-map (s .args .t1) (s .pre .0 .free) _);
       most = m .most;
     }

@@ -15,7 +15,8 @@ use Rattle.regions.specs.Pulling.{besides, nextToPull}
 use Rattle.regions.proofs.Pulling.{pull-none}
 use Rattle.regions.proofs.Rests.{cell-is}
 use Rattle.pull.proofs.Ways.{pull-enough}
-use Rattle.pull.proofs.Turns.{Due, due-first, due-last, due-stop, due-again, part-some, room, zombie-fits, cuttable, chosen-some, chosen-none, placed-at}
+use Rattle.tables.proofs.Choices.{chosen-some, chosen-none}
+use Rattle.pull.proofs.Turns.{Due, due-first, due-last, due-stop, due-again, part-some, room, zombie-fits, cuttable, place-below}
 use Rattle.pull.proofs.pull.Statement.{statement}
 use Rattle.pull.proofs.pull.Tie as tie
 
@@ -36,7 +37,7 @@ module _ (c : tie.After-known-told Inv-loop μ-loop) where
   placed : c .before .choice .given .0 .0 < turn .before .loop .fs .count
   placed =
       let q = c .before .before .before .next-to-pull in
-      placed-at (turn .before .loop .fs) (q .result) _ (turn .before .loop .inv .pullable .free) (q .ensures .1) (c .before .choice .given .1)
+      place-below (turn .before .loop .fs) (q .result) _ (turn .before .loop .inv .pullable .free) (q .ensures .1) (c .before .choice .given .1)
 
   same : regionAt (turn .before .loop .fs) (c .before .choice .given .0 .0) ≡ it
   same = cell-is (turn .before .loop .fs) (c .before .choice .given .0 .0) placed
@@ -44,7 +45,7 @@ module _ (c : tie.After-known-told Inv-loop μ-loop) where
   next : let s = turn .before .before .before .before in nextToPull (s .args .stream) (besides (s .args .newly) (freeOf (turn .before .loop .fs))) ≡ some it
   next =
       let q = c .before .before .before .next-to-pull in
-      chosen-some (freeOf (turn .before .loop .fs)) _ (q .result) (q .ensures .0) _ (c .before .choice .given .1)
+      chosen-some (region 0 0 0 0) (freeOf (turn .before .loop .fs)) (q .result) _ (q .ensures .0) _ (c .before .choice .given .1)
       ∙ ap some same
 
   cut : (taken : ℕ) → taken ≤ it .size → Cuttable (turn .before .loop .fs) (c .before .choice .given .0 .0) taken
@@ -88,7 +89,7 @@ returns c =
     let v = q .before .before in
     let s = v .before .before .before in
     let d = v .loop .inv in
-    let none = chosen-none (freeOf (v .loop .fs)) _ (q .next-to-pull .result) (q .next-to-pull .ensures .0) (c .enum-told .given .1) in
+    let none = chosen-none (region 0 0 0 0) (freeOf (v .loop .fs)) (q .next-to-pull .result) _ (q .next-to-pull .ensures .0) (c .enum-told .given .1) in
     let nothing : d .order ≡ [] = d .ordered (q .before .loop-test .taken) ∙ pull-none (s .args .stream) _ none in
     due-last d (λ t. rw nothing gave) _ refl refl refl refl
 

@@ -11,7 +11,8 @@ use Rattle.tables.specs.TakeRange.{smallestHole}
 use Rattle.tables.specs.declared.Hole.{Hole}
 use Rattle.tables.proofs.Packs.{holes-count, holes-pack}
 use Rattle.keeping.proofs.Holes.{member-smallestHole}
-use Rattle.take_range.proofs.Ways.{chosen-some, chosen-none, placed-at, took-root, took-hole}
+use Rattle.tables.proofs.Choices.{chosen-some, chosen-none, placed-at}
+use Rattle.take_range.proofs.Ways.{took-root, took-hole}
 use Rattle.take_range.proofs.Sounds.{cell-is, kept-cut}
 use Rattle.take_range.proofs.take_range.Statement.{statement}
 use Rattle.take_range.proofs.take_range.Tie as tie
@@ -24,7 +25,7 @@ abbrev it : tie.After-known-told → Hole
 it c = getD (holesOf (at-entry c .args .t1)) (c .before .choice .given .0 .0) (hole 0 0)
 
 smallest : (c : tie.After-known-told) → smallestHole (at-entry c .args .requested) (holesOf (at-entry c .args .t1)) ≡ some (it c)
-smallest c = let q = c .before .before .before .smallest-hole in chosen-some _ _ (q .result) (q .ensures .0) _ (c .before .choice .given .1)
+smallest c = let q = c .before .before .before .smallest-hole in chosen-some (hole 0 0) _ (q .result) _ (q .ensures .0) _ (c .before .choice .given .1)
 
 placed : (c : tie.After-known-told) → c .before .choice .given .0 .0 < at-entry c .args .t1 .count
 placed c =
@@ -34,7 +35,7 @@ placed c =
 
 -- no hole suffices
 no-hole : (c : tie.After-enum-told) → let s = c .before .before .before .before .before in smallestHole (s .args .requested) (holesOf (s .args .t1)) ≡ none
-no-hole c = let q = c .before .before .smallest-hole in chosen-none _ _ (q .result) (q .ensures .0) (c .enum-told .given .1)
+no-hole c = let q = c .before .before .smallest-hole in chosen-none (hole 0 0) _ (q .result) _ (q .ensures .0) (c .enum-told .given .1)
 
 smallest-hole-requires : tie.Need-smallest-hole-requires
 smallest-hole-requires c κs = search needs
