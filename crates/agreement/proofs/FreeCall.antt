@@ -13,7 +13,7 @@ use Rattle.lists.proofs.Members.{member-first}
 use Rattle.tables.specs.Values.{Tables, address, opened, poolOf, atEntry}
 use Rattle.tables.specs.Outcomes.{numbers}
 use Rattle.tables.specs.Steps.{Ending, on, ends, Went}
-use Rattle.tables.specs.HandsBack.{refused, outcomeOf, poolAfter, finished}
+use Rattle.tables.specs.HandsBack.{outcomeOf, poolAfter, finished}
 use Rattle.tables.specs.Free.{freeSteps, freeFound, free}
 use Rattle.tables.specs.declared.LiveBuffer.{LiveBuffer}
 use Rattle.tables.specs.declared.Pool.{Pool}

@@ -2,7 +2,7 @@
 -- mapped pages; a range that no live buffer covers is clear of them; a page inside the roots is in a reservation. Assumes nothing.
 use mathlib.Core.Path.{_≡_, refl, ap, sym, _∙_}
 use mathlib.Core.Logic.{_⊎_, inl, inr, ⊎-elim}
-use mathlib.Core.Bool.{Bool, true, false, _&&_, _||_, not}
+use mathlib.Core.Bool.{Bool, true, false, _&&_, _||_}
 use mathlib.Core.List.{List, [], _∷_}
 use mathlib.Core.Option.{some}
 use Prim.Native.Nat.{ℕ, zero, suc, _+_, _-_, _*_, _≤_, _<_, _/_, _%_, min, max}
@@ -10,7 +10,7 @@ use native.Mathlib.Omega.{arith}
 use native.Mathlib.Nat.{mod-eq-of-lt}
 use borrow.Author.Tests.{le-leb, lt-ltb, eq-eqb, ne-eqb}
 use lib.Dec.{leb, eqb}
-use Rattle.lists.specs.Tests.{All, Member, every}
+use Rattle.lists.specs.Tests.{All, Member}
 use Rattle.lists.proofs.Tests.{cases-eq, cases-lt, all-implies, all-both}
 use Rattle.lists.proofs.Every.{and-true, all-every}
 use Rattle.lists.proofs.Members.{member-sum, member-all}

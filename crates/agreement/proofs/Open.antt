@@ -8,7 +8,7 @@ use borrow.Author.Tests.{eqb-false}
 use lib.Dec.{eqb}
 use Rattle.words.specs.declared.Word.the-variants.{Sync}
 use Rattle.tables.specs.Values.{Tables, address, noTables}
-use Rattle.tables.specs.Steps.{_>>_, nothing}
+use Rattle.tables.specs.Steps.{_>>_}
 use Rattle.tables.specs.Driver.{must, sync}
 use Rattle.tables.specs.MakeRoom.{makeRoom}
 use Rattle.tables.specs.Open.{openSteps}

@@ -3,7 +3,7 @@ ghost use mathlib.Core.Path.{_≡_};
 ghost use Prim.Native.Nat.{_+_, _-_, _<_, _≤_, _^_};
 ghost use lib.ListN.{length};
 ghost use Rattle.gathering.specs.Lending.{isCall, valueIn};
-ghost use Rattle.gathering.specs.Gathers.{Keeps, Lends, Gathers};
+ghost use Rattle.gathering.specs.Gathers.{Lends, Gathers};
 use trace::Line;
 use trace::Partial;
 use trace::Reading;

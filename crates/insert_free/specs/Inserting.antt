@@ -4,7 +4,7 @@ use Prim.Native.Nat.{ℕ, _+_, _≤_, _<_, _^_}
 use Rattle.lists.specs.Tests.{All}
 use Rattle.tables.specs.Values.{Tables, freeOf, withFree, withCounter}
 use Rattle.tables.specs.Kept.{KeptFree}
-use Rattle.tables.specs.Steps.{Ending, on}
+use Rattle.tables.specs.Steps.{Ending}
 use Rattle.tables.specs.InsertFree.{upto, bytes, insertFree}
 use Rattle.tables.specs.declared.FreeRegion.{FreeRegion}
 use Rattle.tables.specs.declared.FreeRegions.{FreeRegions}

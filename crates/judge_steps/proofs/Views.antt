@@ -11,7 +11,7 @@ use Rattle.lists.specs.Tests.{any, every}
 use Rattle.lists.proofs.Tests.{cases-lt}
 use Rattle.judging.specs.Ranges.{inside}
 use Rattle.judging.specs.Rules.{isMapped, inBuffers as inBuffersOf, alone as aloneOf, noHandleTwice}
-use Rattle.judge_tables.specs.Rows.{rows, firstIs, inBuffers, alone}
+use Rattle.judge_tables.specs.Rows.{firstIs, inBuffers, alone}
 use Rattle.judge_tables.specs.declared.Row.{Row}
 use Rattle.judge_steps.specs.State.{pageOf, bufferOf}
 

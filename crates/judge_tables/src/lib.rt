@@ -1,9 +1,8 @@
 // The judge's tables: rows of three numbers in a lent slice, the first `count` in use. One search, one filter and one store serve all of them.
 ghost use mathlib.Core.Path.{_≡_};
-ghost use mathlib.Core.Bool.{cond, not, _&&_, _||_};
-ghost use mathlib.Core.List.{_∷_};
+ghost use mathlib.Core.Bool.{cond, _&&_};
 ghost use Prim.Native.Nat.{_+_, _*_, _≤_, _<_};
-ghost use lib.Dec.{leb, eqb};
+ghost use lib.Dec.{leb};
 ghost use lib.ListN.{length};
 ghost use Rattle.lists.specs.Tests.{any, every, filter};
 ghost use Rattle.judging.specs.Ranges.{inside, clear, pagesFrom};

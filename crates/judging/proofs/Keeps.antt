@@ -15,8 +15,8 @@ use Rattle.words.specs.declared.Word.{Word}
 use Rattle.words.specs.declared.Word.the-variants.{Reserve, Create, Map, Access, Unmap, Release, Record as RecordEvent, Asked as AskedFor, Wait, Sync, Giveback}
 use Rattle.judging.specs.Ranges.{inside, clear, pages}
 use Rattle.judging.specs.Rules.{Judge, Live, isMapped, aligned, wholePages, noneLive, inReservation, inBuffers, alone, noHandleTwice, R3, R4, R7}
-use Rattle.judging.specs.Verdict.{Step, on, beyond, ruled, sized, placed, unmapped, recorded, handed, ended, start}
-use Rattle.judging.specs.Meaning.{call, movedBy, under, Buffer, there, endedBy, live, NoAddress, NoHandle, Kept, Sound}
+use Rattle.judging.specs.Verdict.{Step, on, beyond, ruled, sized, placed, unmapped, recorded, ended, start}
+use Rattle.judging.specs.Meaning.{movedBy, Buffer, there, endedBy, live, NoAddress, NoHandle, Kept, Sound}
 use Rattle.judging.specs.declared.Asked.{Asked}
 use Rattle.judging.specs.declared.Call.{Call}
 use Rattle.judging.specs.declared.Call.the-variants.{Open, Malloc, Free, Close}

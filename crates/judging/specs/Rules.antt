@@ -6,7 +6,7 @@ use Prim.Native.Nat.{ℕ, _+_, _%_, _^_}
 use lib.Dec.{ltb, leb, eqb}
 use Rattle.lists.specs.Tests.{every, any}
 use Rattle.trace.specs.declared.Line.{Line}
-use Rattle.judging.specs.Said.{said, ifOpen}
+use Rattle.judging.specs.Said.{ifOpen}
 use Rattle.judging.specs.Ranges.{inside, clear, pages}
 use Rattle.judging.specs.declared.Run.{Run}
 use Rattle.judging.specs.declared.Said.{Said}

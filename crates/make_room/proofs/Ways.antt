@@ -7,7 +7,6 @@ use Prim.Native.Nat.{ℕ, _+_, _-_, _≤_, _<_}
 use native.Mathlib.Omega.{arith}
 use borrow.Author.Tests.{eq-eqb, le-leb, lt-leb}
 use Rattle.tables.specs.Values.{tablesOf, freeOf}
-use Rattle.tables.specs.Steps.{on}
 use Rattle.tables.specs.NewPages.{insertNew}
 use Rattle.tables.specs.Pull.{pullIn}
 use Rattle.tables.specs.MakeRoom.{fill, makeRoom}

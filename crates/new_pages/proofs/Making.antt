@@ -8,7 +8,7 @@ use lib.ListN.{length}
 use Rattle.tables.specs.Values.{Tables, page, pagesOf}
 use Rattle.tables.specs.Kept.{KeptHoles, KeptPages}
 use Rattle.tables.specs.Steps.{Ending, on, ends}
-use Rattle.tables.specs.NewPages.{at, newPages, mapPage, makePages}
+use Rattle.tables.specs.NewPages.{newPages, mapPage, makePages}
 use Rattle.tables.proofs.Packs.{pages-count}
 use Rattle.tables.specs.declared.Pages.{Pages}
 use Rattle.tables.specs.declared.Holes.{Holes}

@@ -1,5 +1,5 @@
 -- A call answers with its first 2,048 answers what it answers with all of them, if it makes at most 2,048 records with these. Assumes nothing.
-use mathlib.Core.Path.{_≡_, refl}
+use mathlib.Core.Path.{_≡_}
 use mathlib.Core.Bool.{Bool, true, false, cond}
 use mathlib.Core.List.{List}
 use Prim.Native.Nat.{ℕ, _≤_}

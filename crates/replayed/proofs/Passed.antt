@@ -1,14 +1,13 @@
 -- While no call line is met, the waiting call gathers its answers and nothing is printed. Assumes nothing.
 use mathlib.Core.Path.{_≡_, refl}
-use mathlib.Core.Bool.{Bool, true, false, cond}
+use mathlib.Core.Bool.{Bool, true, false}
 use mathlib.Core.List.{List, [], _∷_, _++_}
 use Prim.Native.Nat.{ℕ, _+_}
-use Rattle.trace.specs.declared.Line.{Line}
 use Rattle.trace.specs.declared.Reading.{Reading}
 use Rattle.trace.specs.declared.Reading.the-variants.{Good, Malformed}
 use Rattle.tables.specs.declared.Pool.{Pool}
 use Rattle.gathering.specs.Lending.{Passed, passed, isDriver, isResult, answerIn}
-use Rattle.replayed.specs.Replay.{Waiting, lends, replayFrom}
+use Rattle.replayed.specs.Replay.{Waiting, replayFrom}
 
 -- the waiting call with other answers
 abbrev pub lent : Waiting → List ℕ → Waiting

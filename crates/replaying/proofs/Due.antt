@@ -1,32 +1,29 @@
 -- What a call that was due leaves in the buffer is what the definition prints for it. A log of 2,048 records holds all records of the call, so at most 2,048
 -- answers were taken, and the answers that were not kept change nothing. Assumes nothing.
-use mathlib.Core.Path.{_≡_, refl, sym, ap, _∙_}
-use mathlib.Core.Bool.{Bool, true, false, cond}
-use mathlib.Core.List.{List, [], _∷_, _++_, append-assoc, append-nil}
-use Prim.Native.Nat.{ℕ, _+_, _*_, _≤_, _<_}
+use mathlib.Core.Path.{_≡_, sym, ap, _∙_}
+use mathlib.Core.Bool.{true, false}
+use mathlib.Core.List.{List, _++_, append-assoc, append-nil}
+use Prim.Native.Nat.{ℕ, _+_, _*_, _≤_}
 use native.Mathlib.Omega.{arith}
-use lib.ListN.{length, take, drop, length-append, length-drop}
+use lib.ListN.{length, take, drop, length-append}
 use Rattle.words.specs.Log.{cells, written}
 use Rattle.words.specs.declared.Record.{Record}
 use Rattle.words.proofs.Log.{length-cells}
-use Rattle.tables.specs.Outcomes.{numbers, is}
+use Rattle.tables.specs.Outcomes.{is}
 use Rattle.tables.specs.HandsBack.{Reply}
-use Rattle.tables.specs.declared.Outcome.{Outcome}
 use Rattle.tables.specs.declared.Pool as tables
-use Rattle.trace.specs.Form.{printed, shortLine}
+use Rattle.trace.specs.Form.{shortLine}
 use Rattle.trace.specs.Put.{Put}
 use Rattle.trace.specs.declared.Line.{Line}
 use Rattle.trace.proofs.Put.{put-front, put-length}
-use Rattle.calls.specs.Replies.{Replies, called}
+use Rattle.calls.specs.Replies.{called}
 use Rattle.calls.specs.declared.Pool.{Pool}
 use Rattle.calls.specs.declared.Called.{Called}
-use Rattle.printing.specs.Records.{printedAll, recordsIn}
-use Rattle.printing.specs.Traced.{callLine, resultOf, callText}
+use Rattle.printing.specs.Traced.{callText}
 use Rattle.printing.proofs.Records.{records-written}
 use Rattle.replayed.specs.Replay.{Waiting, answered, traced, ran}
 use Rattle.replayed.proofs.Answered.{answered-spare}
 use Rattle.replaying.specs.Turned.{waitingFor, Runs, RunsDue}
-use Rattle.replaying.specs.declared.Ran.{Ran}
 
 -- a log keeps its length, so the records fit
 few-records : (log log′ : List ℕ) (rs : List Record) → length log ≡ 8192 → length log′ ≡ length log → log′ ≡ written log 0 rs → length rs ≤ 2048

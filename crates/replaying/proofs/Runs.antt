@@ -1,17 +1,14 @@
 -- Turn after turn, chunk after chunk: what is printed in all is what replay prints for the whole input, however it is cut. Assumes nothing.
 use mathlib.Core.Path.{_≡_, refl, sym, ap, _∙_}
-use mathlib.Core.Bool.{Bool, true, false, cond, _||_}
+use mathlib.Core.Bool.{true, false, cond}
 use mathlib.Core.List.{List, [], _∷_, _++_, append-assoc, append-nil}
-use Prim.Native.Nat.{ℕ, _+_, _≤_, _<_}
+use Prim.Native.Nat.{ℕ}
 use native.Mathlib.Omega.{arith}
 use lib.ListN.{length, take, drop, drop-of-length-le}
 use Rattle.lists.proofs.Tests.{neither}
 use Rattle.tables.specs.Values.{closedPool}
 use Rattle.tables.specs.declared.Pool as tables
-use Rattle.trace.specs.Chunks.{linesFrom}
-use Rattle.trace.specs.Lines.{linesOf}
 use Rattle.trace.specs.Machine.{isFresh}
-use Rattle.trace.specs.declared.Reading.{Reading}
 use Rattle.trace.proofs.Chunks.{linesFrom-fresh}
 use Rattle.gathering.specs.Gathers.{Keeps}
 use Rattle.calls.specs.declared.Pool.{Pool}

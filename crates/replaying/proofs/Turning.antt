@@ -1,24 +1,20 @@
 -- What a turn comes to, by whether the waiting call is due and has a result; and the end. Assumes nothing.
 use mathlib.Core.Path.{_≡_, refl, sym, ap, _∙_}
-use mathlib.Core.Bool.{Bool, true, false, cond, _||_}
-use mathlib.Core.List.{List, [], _∷_, _++_, append-nil}
-use Prim.Native.Nat.{ℕ, _+_, _*_, _/_, _≤_, _<_}
+use mathlib.Core.Bool.{true, false, cond}
+use mathlib.Core.List.{List, [], _++_, append-nil}
+use Prim.Native.Nat.{ℕ, _*_, _<_}
 use native.Mathlib.Omega.{arith}
 use borrow.Author.Tests.{ne-eqb}
-use lib.Dec.{eqb}
 use lib.ListN.{length, take, drop}
 use Rattle.tables.specs.declared.Pool as tables
 use Rattle.trace.specs.Machine.{isFresh}
-use Rattle.trace.specs.Chunks.{ending}
 use Rattle.trace.specs.declared.Line.{Line}
-use Rattle.trace.specs.declared.Reading.{Reading}
 use Rattle.gathering.specs.Gathers.{Keeps}
 use Rattle.calls.specs.Replies.{Opens, Mallocs, Frees, Closes}
 use Rattle.calls.specs.declared.Pool.{Pool}
 use Rattle.calls.specs.declared.Called.{Called}
-use Rattle.words.specs.declared.Address.{Address}
-use Rattle.replayed.specs.Replay.{answered, ran, replayFrom, replayLines}
-use Rattle.waiting.specs.Places.{waitingOf, isEnded, todo}
+use Rattle.replayed.specs.Replay.{answered}
+use Rattle.waiting.specs.Places.{isEnded, todo}
 use Rattle.waiting.specs.Advances.{Advances}
 use Rattle.waiting.specs.declared.Place.{Place}
 use Rattle.waiting.specs.declared.Advanced.{Advanced}

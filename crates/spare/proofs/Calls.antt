@@ -1,14 +1,13 @@
 -- A call that makes at most 2,048 driver calls does with its first 2,048 answers what it does with all of them. Assumes nothing.
 use mathlib.Core.Path.{_≡_, refl, sym, ap, _∙_}
 use mathlib.Core.Logic.{⊎-elim}
-use mathlib.Core.Bool.{Bool, true, false, cond, not}
+use mathlib.Core.Bool.{Bool, true, false, cond}
 use mathlib.Core.List.{List}
 use mathlib.Core.Option.{Option, some, none}
 use Prim.Native.Nat.{ℕ, _+_, _*_, _≤_, _<_}
 use native.Mathlib.Omega.{arith}
 use lib.ListN.{length, take, length-take}
 use lib.Seq.{getD-take}
-use Rattle.lists.specs.Tests.{first}
 use Rattle.lists.proofs.Tests.{cases-lt}
 use Rattle.words.specs.Answers.{lent}
 use Rattle.words.specs.declared.Record.{Record}

@@ -10,7 +10,7 @@ use Rattle.words.specs.Answers.{lent, codeOf, valueOf, failed, complete}
 use Rattle.words.specs.declared.Record.{Record}
 use Rattle.words.specs.declared.Answer.{Answer}
 use Rattle.tables.specs.Values.{Tables}
-use Rattle.tables.specs.Steps.{Ending, on, ends, Went, went, Step, Act, after, further, _>>=_, give, end, endIf, nothing, each, tables, change}
+use Rattle.tables.specs.Steps.{Ending, on, ends, Went, went, Step, Act, after, further, _>>=_, give, end, endIf, each, tables, change}
 use Rattle.tables.specs.Driver.{
   heard,
   driver,

@@ -6,7 +6,7 @@ use Rattle.words.specs.declared.Answer.{Answer}
 use Rattle.words.specs.declared.Answer.the-variants.{Done, Failed, Missing}
 use Rattle.tables.specs.Values.{Tables, holesOf, rootsOf, withHoles, withRoots}
 use Rattle.tables.specs.Kept.{KeptHoles, KeptRoots}
-use Rattle.tables.specs.Steps.{Ending, on, Step}
+use Rattle.tables.specs.Steps.{Ending, Step}
 use Rattle.tables.specs.declared.Holes.{Holes}
 use Rattle.tables.specs.declared.Roots.{Roots}
 use Rattle.tables.specs.declared.Outcome.the-variants.{ReserveFailed, AnswersRanOut}

@@ -2,7 +2,7 @@
 use mathlib.Core.Path.{_≡_, refl, sym, ap, _∙_}
 use mathlib.Core.Bool.{true, false, true≢false}
 use mathlib.Core.List.{List, [], _∷_, _++_}
-use Prim.Native.Nat.{ℕ, _+_, _≤_, _<_}
+use Prim.Native.Nat.{ℕ, _≤_, _<_}
 use native.Mathlib.Omega.{arith}
 use lib.ListN.{length, drop}
 use Rattle.tables.specs.declared.Pool.{Pool}
@@ -14,7 +14,6 @@ use Rattle.trace.specs.declared.Reach.{Reach}
 use Rattle.trace.specs.declared.Reading.{Reading}
 use Rattle.trace.specs.declared.Reading.the-variants.{Good}
 use Rattle.trace.proofs.Scanned.{Scanned}
-use Rattle.gathering.specs.Gathers.{Keeps}
 use Rattle.gathering.proofs.Sofar.{line-fed}
 use Rattle.printing.specs.Traced.{isOpen}
 use Rattle.replayed.specs.Replay.{replayLines}

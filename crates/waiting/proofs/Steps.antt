@@ -1,34 +1,19 @@
 -- What each way to go on comes to: what is printed, and what is then to be printed, is what was to be printed. Assumes nothing.
 use mathlib.Core.Path.{_≡_, refl, sym, ap, _∙_, subst}
-use mathlib.Core.Bool.{Bool, true, false, cond, not, _&&_}
-use mathlib.Core.List.{List, [], _∷_, _++_, append-nil}
+use mathlib.Core.Bool.{true, false}
+use mathlib.Core.List.{List, [], _++_, append-nil}
 use Prim.Native.Nat.{ℕ, _+_, _≤_, _<_}
 use native.Mathlib.Omega.{arith}
-use borrow.Author.Tests.{not-true}
 use lib.ListN.{length, take, drop}
-use Rattle.lists.proofs.Tests.{both}
 use Rattle.tables.specs.declared.Pool.{Pool}
 use Rattle.trace.specs.Chunks.{linesFrom}
 use Rattle.trace.specs.Form.{badLine}
-use Rattle.trace.specs.Machine.{fresh, lineAt}
-use Rattle.trace.specs.Put.{Put}
-use Rattle.trace.specs.declared.Line.{Line}
-use Rattle.trace.specs.declared.Partial.{Partial}
-use Rattle.trace.specs.declared.Reach.{Reach}
-use Rattle.trace.specs.declared.Reading.{Reading}
-use Rattle.trace.specs.declared.Reading.the-variants.{Good}
 use Rattle.trace.specs.declared.Reading.the-variants as readings
 use Rattle.trace.proofs.Put.{put-front, put-length}
-use Rattle.trace.proofs.Scanned.{Scanned}
-use Rattle.gathering.specs.Lending.{Passed, isDriver, isResult, isCall}
-use Rattle.gathering.specs.Gathers.{Keeps, ahead, Took, Gathers}
-use Rattle.gathering.specs.declared.Gathered.{Gathered}
-use Rattle.gathering.specs.declared.Stop.the-variants.{More, Call, Malformed}
-use Rattle.printing.specs.Traced.{isOpen}
-use Rattle.replayed.specs.Replay.{ran, waits, replayFrom, replayLines}
-use Rattle.replayed.proofs.Passed.{replayPassed, replay-passed}
-use Rattle.waiting.specs.Places.{waitingAt, readingAt, overAt, waitingOf, todo}
-use Rattle.waiting.specs.Advances.{stopped, dueAt, Stops, Meets, Goes, Advances}
+use Rattle.gathering.specs.Gathers.{Keeps}
+use Rattle.replayed.specs.Replay.{replayFrom, replayLines}
+use Rattle.waiting.specs.Places.{waitingOf, todo}
+use Rattle.waiting.specs.Advances.{Stops, Goes, Advances}
 use Rattle.waiting.specs.declared.Place.{Place}
 use Rattle.waiting.specs.declared.Advanced.{Advanced}
 

@@ -1,11 +1,11 @@
 -- A call waits: the chunk is read, the run ends at a malformed line or an open, or the call is due at the next call line. Assumes nothing.
 use mathlib.Core.Path.{_≡_, refl, sym, ap, _∙_}
-use mathlib.Core.Bool.{Bool, true, false, cond, not, _&&_}
-use mathlib.Core.List.{List, [], _∷_, _++_}
-use Prim.Native.Nat.{ℕ, _+_, _≤_, _<_}
+use mathlib.Core.Bool.{Bool, true, false, cond, not}
+use mathlib.Core.List.{List, _∷_, _++_}
+use Prim.Native.Nat.{ℕ, _+_, _≤_}
 use native.Mathlib.Omega.{arith}
 use borrow.Author.Tests.{not-true}
-use lib.ListN.{length, drop}
+use lib.ListN.{drop}
 use Rattle.lists.proofs.Tests.{both}
 use Rattle.tables.specs.declared.Pool.{Pool}
 use Rattle.trace.specs.Chunks.{linesFrom}
@@ -14,15 +14,15 @@ use Rattle.trace.specs.Machine.{fresh}
 use Rattle.trace.specs.declared.Line.{Line}
 use Rattle.trace.specs.declared.Reading.{Reading}
 use Rattle.trace.specs.declared.Reading.the-variants.{Good}
-use Rattle.gathering.specs.Lending.{Passed, isDriver, isResult, isCall}
-use Rattle.gathering.specs.Gathers.{Keeps, ahead, feeds, Calls, Took, Gathers}
+use Rattle.gathering.specs.Lending.{isDriver, isResult, isCall}
+use Rattle.gathering.specs.Gathers.{Keeps, ahead, feeds, Gathers}
 use Rattle.gathering.specs.declared.Gathered.{Gathered}
 use Rattle.gathering.specs.declared.Stop.{Stop}
 use Rattle.gathering.specs.declared.Stop.the-variants.{More, Call, Malformed}
 use Rattle.printing.specs.Traced.{isOpen}
 use Rattle.replayed.specs.Replay.{ran, waits, replayFrom}
 use Rattle.replayed.proofs.Passed.{replayPassed, replay-passed}
-use Rattle.waiting.specs.Places.{waitingAt, readingAt, waitingOf, todo}
+use Rattle.waiting.specs.Places.{readingAt, waitingOf, todo}
 use Rattle.waiting.specs.Advances.{dueAt, Stops, Meets, Advances}
 use Rattle.waiting.specs.declared.Place.{Place}
 use Rattle.waiting.specs.declared.Advanced.{Advanced}

@@ -1,10 +1,9 @@
 -- `printing::put_call` meets its contract: each part ends where the next begins, and a line has at most 72 bytes. Assumes nothing.
-use mathlib.Core.Path.{_≡_, ap, sym, _∙_}
+use mathlib.Core.Path.{_≡_}
 use mathlib.Core.List.{List, _++_, append-assoc}
-use Prim.Native.Nat.{ℕ, _≤_}
+use Prim.Native.Nat.{ℕ}
 use native.Mathlib.Omega.{arith}
 use borrow.Author.Needs.{needs}
-use lib.ListN.{length}
 use Rattle.tables.specs.Outcomes.{numbers}
 use Rattle.tables.specs.declared.Outcome.{Outcome}
 use Rattle.trace.specs.Form.{printed}

@@ -1,6 +1,6 @@
 -- `printing::put_records` meets its contract. The invariant: what is put, and the lines of the records that are left, are the lines of all. Assumes nothing.
 use mathlib.Core.Path.{refl}
-use Prim.Native.Nat.{_+_, _-_, _*_}
+use Prim.Native.Nat.{_-_}
 use native.Mathlib.Omega.{arith}
 use borrow.Author.Needs.{needs}
 use Rattle.trace.proofs.Put.{put-length}

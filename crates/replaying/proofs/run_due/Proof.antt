@@ -1,5 +1,5 @@
 -- `replaying::run_due` meets its contract, by whether the answers ran out. Assumes nothing.
-use mathlib.Core.Path.{_≡_, sym, _∙_}
+use mathlib.Core.Path.{sym, _∙_}
 use Prim.Native.Nat.{_≤_}
 use native.Mathlib.Omega.{arith}
 use Rattle.replaying.proofs.Due.{few-called, due-short, due-printed}

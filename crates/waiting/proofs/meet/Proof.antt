@@ -1,7 +1,6 @@
 -- `waiting::meet` meets its contract. Assumes nothing.
 use mathlib.Core.Path.{sym, _∙_}
 use mathlib.Core.Bool.{true≢false}
-use native.Mathlib.Omega.{arith}
 use borrow.Author.Tests.{eq-eqb, eqb-true}
 use borrow.Author.Needs.{needs}
 use Rattle.waiting.proofs.meet.Statement.{statement}

@@ -1,5 +1,4 @@
 -- `judge_steps::records::on_asked` meets its contract: the id is not above the last, or it is. Assumes nothing.
-use mathlib.Core.Bool.{not}
 use Rattle.judging.specs.Rules.{R9asked}
 use Rattle.judging.specs.Verdict.{recorded}
 use Rattle.judge_steps.specs.State.{judgeOf}

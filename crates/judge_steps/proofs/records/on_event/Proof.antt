@@ -1,6 +1,5 @@
 -- `judge_steps::records::on_event` meets its contract: the id rises, or not. Assumes nothing.
 use mathlib.Core.Path.{ap, _∙_}
-use mathlib.Core.Bool.{not}
 use Rattle.judging.specs.Rules.{R9recorded}
 use Rattle.judging.specs.Verdict.{on, recorded}
 use Rattle.judge_steps.specs.State.{judgeOf}

@@ -6,7 +6,7 @@ use borrow.Author.Tests.{not-true, not-false}
 use Rattle.judging.specs.Ranges.{inside}
 use Rattle.judging.specs.Rules.{R4}
 use Rattle.judging.specs.Verdict.{on, recorded}
-use Rattle.judge_tables.specs.Rows.{rows, stays}
+use Rattle.judge_tables.specs.Rows.{stays}
 use Rattle.judge_steps.specs.State.{pageOf, judgeOf}
 use Rattle.judge_steps.proofs.Steps.{refused, passed, rest, with-mapped}
 use Rattle.judge_steps.proofs.records.on_unmap.Statement.{statement}
