@@ -10,9 +10,9 @@ use borrow.Author.Tests.{ne-eqb}
 use Rattle.lists.specs.Tests.{All, Member, filter}
 use Rattle.lists.proofs.Members.{sum-member}
 use Rattle.lists.proofs.Tests.{cases-lt}
-use Rattle.keeping.specs.Cover.{within, equal}
+use Rattle.keeping.specs.Cover.{within, equal, keysAt}
 use Rattle.keeping.proofs.Cover.{within-in, within-out, equal-same}
-use Rattle.keeping.proofs.Counting.{keysAt, count-dropped, count-kept}
+use Rattle.keeping.proofs.Counting.{count-dropped, count-kept}
 use Rattle.judging.specs.Ranges.{inside}
 use Rattle.judging.specs.Rules.{Page, isUnder}
 use Rattle.judging.proofs.Laws.{inside-is, is-inside}

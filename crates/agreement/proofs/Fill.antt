@@ -12,11 +12,10 @@ use Rattle.tables.specs.NewPages.{Room}
 use Rattle.tables.specs.MakeRoom.{fill}
 use Rattle.tables.specs.declared.FreeRegion.{FreeRegion}
 use Rattle.keeping.specs.Sound as S
+use Rattle.keeping.specs.MakeRoom.{Made, Measured}
 use Rattle.keeping.proofs.Fill.{
-  Measured,
   Newly,
   Filled,
-  Made,
   Ready,
   newly-most,
   all-range,

@@ -13,7 +13,8 @@ use Rattle.tables.specs.declared.LiveBuffer.{LiveBuffer}
 use Rattle.tables.specs.declared.Outcome.{Outcome}
 use Rattle.tables.specs.declared.Outcome.the-variants.{Allocated}
 use Rattle.keeping.specs.Sound.{none, Sound, Kept}
-use Rattle.keeping.proofs.HandOver.{Handing, hands-over}
+use Rattle.keeping.specs.Malloc.{Handing}
+use Rattle.keeping.proofs.HandOver.{hands-over}
 use Rattle.judging.specs.Rules.{Judge}
 use Rattle.judging.specs.declared.Run.{Run}
 use Rattle.agreement.specs.Agrees.{Agrees, Agreeing}

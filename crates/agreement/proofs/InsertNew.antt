@@ -15,9 +15,10 @@ use Rattle.tables.specs.NewPages.{Room, insertNew}
 use Rattle.tables.specs.declared.Outcome.{Outcome}
 use Rattle.keeping.specs.Cover.{within}
 use Rattle.keeping.specs.Sound as S
+use Rattle.keeping.specs.MakeRoom.{Made}
 use Rattle.keeping.proofs.Cover.{within-none}
 use Rattle.keeping.proofs.NewPages.{made-whole}
-use Rattle.keeping.proofs.Fill.{Made, Ready, made-inserting, inserts-new}
+use Rattle.keeping.proofs.Fill.{Ready, made-inserting, inserts-new}
 use Rattle.judging.specs.Rules.{Judge}
 use Rattle.judging.specs.declared.Run.{Run}
 use Rattle.agreement.specs.Agrees.{Serving, Agreeing, Ends}

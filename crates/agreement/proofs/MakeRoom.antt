@@ -6,8 +6,9 @@ use Rattle.tables.specs.Steps.{_>>=_, _>>_}
 use Rattle.tables.specs.NewPages.{makePages, insertNew}
 use Rattle.tables.specs.MakeRoom.{fill, makeRoom}
 use Rattle.keeping.specs.Sound.{none, Whole}
-use Rattle.keeping.proofs.TakeRange.{TakesFrom, TakenRange}
-use Rattle.keeping.proofs.Fill.{Made, Ready}
+use Rattle.keeping.specs.MakeRoom.{TakesFrom, Made}
+use Rattle.keeping.proofs.TakeRange.{TakenRange}
+use Rattle.keeping.proofs.Fill.{Ready}
 use Rattle.keeping.proofs.MakeRoom.{Roomed, aligned-missing, count, taken, taken-begins, taken-measured}
 use Rattle.judging.specs.declared.Run.{Run}
 use Rattle.keeping.specs.Cover.{within}

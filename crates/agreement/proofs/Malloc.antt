@@ -17,9 +17,10 @@ use Rattle.tables.specs.declared.FreeRegion.{FreeRegion}
 use Rattle.tables.specs.declared.Outcome.{Outcome}
 use Rattle.tables.specs.declared.Outcome.the-variants.{RequestedExceedsVa, PagesFull, ZombiesFull, RootsFull}
 use Rattle.keeping.specs.Sound.{none, Whole, KeptBut}
-use Rattle.keeping.proofs.TakeRange.{TakesFrom}
+use Rattle.keeping.specs.MakeRoom.{TakesFrom}
+use Rattle.keeping.specs.Malloc.{Asked}
 use Rattle.keeping.proofs.Fit.{Fitting, Fitted}
-use Rattle.keeping.proofs.Malloc.{losing, Handed, found, made, admits-room, Asked, begins}
+use Rattle.keeping.proofs.Malloc.{losing, Handed, found, made, admits-room, begins}
 use Rattle.judging.specs.declared.Run.{Run}
 use Rattle.agreement.specs.Agrees.{Serving, Agreeing, Ended, Ends}
 use Rattle.agreement.specs.Judges.{Judges}

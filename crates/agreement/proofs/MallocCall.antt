@@ -22,7 +22,7 @@ use Rattle.tables.specs.declared.Outcome.the-variants.{BadSize, SpansFull}
 use Rattle.trace.specs.Kinds.{ofRecord}
 use Rattle.trace.specs.declared.Line.{Line}
 use Rattle.keeping.specs.Sound.{Whole, KeptBut}
-use Rattle.keeping.proofs.Malloc.{Asked}
+use Rattle.keeping.specs.Malloc.{Asked}
 use Rattle.keeping.proofs.WellFormedEnters.{entry-page, entry-spans}
 use Rattle.judging.specs.Rules.{Judge}
 use Rattle.judging.specs.Verdict.{told, handed, answered, ruled, sized}

@@ -29,10 +29,11 @@ use Rattle.tables.specs.declared.Page.{Page}
 use Rattle.tables.specs.declared.Outcome.{Outcome}
 use Rattle.keeping.specs.Cover.{within, equal}
 use Rattle.keeping.specs.Sound.{none}
+use Rattle.keeping.specs.Move.{Movable, Moving}
 use Rattle.keeping.proofs.Cover.{within-join, within-out, within-none}
 use Rattle.keeping.proofs.Whole.{within-page}
 use Rattle.keeping.proofs.PageStarts.{length-startsOf}
-use Rattle.keeping.proofs.Move.{Moving, Movable, Moved, page-there, moving-next, moving-first, moves-pages}
+use Rattle.keeping.proofs.Move.{Moved, page-there, moving-next, moving-first, moves-pages}
 use Rattle.judging.specs.Rules.{Judge, R3}
 use Rattle.judging.specs.Verdict.{recorded, ruled, sized, placed}
 use Rattle.judging.specs.declared.Run.{Run}

@@ -31,12 +31,12 @@ use Rattle.trace.specs.Kinds.{ofRecord}
 use Rattle.keeping.specs.Cover.{within, equal, pagesAt, handlesAt}
 use Rattle.keeping.specs.Sound as S
 use Rattle.keeping.specs.Sound.{Whole}
+use Rattle.keeping.specs.MakeRoom.{PagesTo, Made}
 use Rattle.keeping.proofs.Cover.{within-join, within-in, within-out, within-none}
 use Rattle.keeping.proofs.Whole.{aligned-pages, whole-past, within-page}
 use Rattle.keeping.proofs.Counting.{none-counted, none-passes}
 use Rattle.keeping.proofs.Sounds.{sound-once}
-use Rattle.keeping.proofs.NewPages.{PagesTo, maps-page}
-use Rattle.keeping.proofs.Fill.{Made}
+use Rattle.keeping.proofs.NewPages.{maps-page}
 use Rattle.judging.specs.Rules.{Judge, Page, R2, R3}
 use Rattle.judging.specs.Verdict.{recorded, ruled, sized, withHeld, placed}
 use Rattle.judging.specs.declared.Run.{Run}

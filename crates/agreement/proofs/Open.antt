@@ -15,8 +15,9 @@ use Rattle.tables.specs.Open.{openSteps}
 use Rattle.tables.specs.declared.Outcome.{Outcome}
 use Rattle.tables.specs.declared.Outcome.the-variants.{Opened}
 use Rattle.keeping.specs.Sound.{none}
+use Rattle.keeping.specs.Open.{Configured}
 use Rattle.keeping.proofs.TakeRange.{Reserved}
-use Rattle.keeping.proofs.Open.{Configured, OpenedKept, empty-kept, takes-from, opens-kept}
+use Rattle.keeping.proofs.Open.{OpenedKept, empty-kept, takes-from, opens-kept}
 use Rattle.judging.specs.Rules.{Judge}
 use Rattle.judging.specs.Verdict.{on, recorded}
 use Rattle.judging.specs.declared.Run.{Run}

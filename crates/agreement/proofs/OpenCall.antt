@@ -19,7 +19,8 @@ use Rattle.trace.specs.Kinds.{ofRecord, openLine}
 use Rattle.trace.specs.declared.Line.{Line}
 use Rattle.trace.specs.declared.Reading.the-variants.{Good}
 use Rattle.keeping.specs.Sound.{none}
-use Rattle.keeping.proofs.Open.{Configured, configured, OpenedKept}
+use Rattle.keeping.specs.Open.{Configured}
+use Rattle.keeping.proofs.Open.{configured, OpenedKept}
 use Rattle.judging.specs.Said.{said}
 use Rattle.judging.specs.Rules.{Judge, R0}
 use Rattle.judging.specs.Verdict as Verdict

@@ -19,7 +19,8 @@ use Rattle.tables.specs.declared.FreeRegion.{FreeRegion}
 use Rattle.tables.specs.declared.Outcome.{Outcome}
 use Rattle.keeping.specs.Cover.{within}
 use Rattle.keeping.specs.Sound.{none}
-use Rattle.keeping.proofs.Pull.{part, takenOf, spansAfter, Pulling, Pulled, pulling-next, pulls}
+use Rattle.keeping.specs.Pull.{Pulling}
+use Rattle.keeping.proofs.Pull.{part, takenOf, spansAfter, Pulled, pulling-next, pulls}
 use Rattle.judging.specs.Rules.{Judge, R9asked}
 use Rattle.judging.specs.Verdict.{recorded, ruled}
 use Rattle.judging.specs.declared.Run.{Run}

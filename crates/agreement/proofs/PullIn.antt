@@ -18,9 +18,11 @@ use Rattle.tables.specs.declared.Zombie.{Zombie}
 use Rattle.tables.specs.declared.Outcome.{Outcome}
 use Rattle.keeping.specs.Cover.{within}
 use Rattle.keeping.specs.Sound.{none, WholeRange}
-use Rattle.keeping.proofs.Pull.{Pulling, Pulled}
-use Rattle.keeping.proofs.Move.{Movable, Moved}
-use Rattle.keeping.proofs.PullIn.{PulledIn, Spare, spare-most, pulled-spare, pulled-fills, moved-inserting}
+use Rattle.keeping.specs.Pull.{Pulling, Spare}
+use Rattle.keeping.specs.Move.{Movable}
+use Rattle.keeping.proofs.Pull.{Pulled}
+use Rattle.keeping.proofs.Move.{Moved}
+use Rattle.keeping.proofs.PullIn.{PulledIn, spare-most, pulled-spare, pulled-fills, moved-inserting}
 use Rattle.judging.specs.Rules.{Judge}
 use Rattle.judging.specs.declared.Run.{Run}
 use Rattle.agreement.specs.Agrees.{Serving, Agreeing, Ends}
@@ -45,7 +47,7 @@ module _ {run : Run} (serving : Serving run) where
     abbrev order : List FreeRegion
     order = pullOrder (o .stream) others
 
-    module _ (range : WholeRange p place lacks) (spare : Spare lost rest p lacks c keep others o) where
+    module _ (range : WholeRange p place lacks) (spare : Spare lacks c others) where
       -- the pages are moved into the range: the judge has just them mapped beside what the tables have
       abbrev Filled : ℕ → List FreeRegion → Tables → Judge → Type 0
       Filled n l t s = Moved lost filling p place n 127 l t × Agreeing run (within place n) [] t s

@@ -27,11 +27,12 @@ use Rattle.tables.specs.declared.Outcome.the-variants.{OutOfMemory}
 use Rattle.keeping.specs.Cover.{within, equal, pagesAt, handlesAt}
 use Rattle.keeping.specs.Sound as S
 use Rattle.keeping.specs.Sound.{WholeRange, Sound}
+use Rattle.keeping.specs.MakeRoom.{PagesTo}
 use Rattle.keeping.proofs.Cover.{within-in, within-out, within-le, equal-same}
 use Rattle.keeping.proofs.Whole.{aligned-add, within-page}
 use Rattle.keeping.proofs.Counting.{rises-once, count-kept, count-dropped}
 use Rattle.keeping.proofs.Sounds.{sound-once, sound-pages, sound-bare}
-use Rattle.keeping.proofs.NewPages.{PagesTo, rolls-back}
+use Rattle.keeping.proofs.NewPages.{rolls-back}
 use Rattle.judging.specs.Ranges.{inside}
 use Rattle.judging.specs.Rules.{Judge, Page, R4, R5}
 use Rattle.judging.specs.Verdict.{recorded, ruled, unmapped, released}

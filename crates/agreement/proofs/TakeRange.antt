@@ -26,8 +26,9 @@ use Rattle.tables.specs.declared.Outcome.the-variants.{ReserveFailed, Incredibl
 use Rattle.trace.specs.Kinds.{ofRecord}
 use Rattle.keeping.specs.Sound as S
 use Rattle.keeping.specs.Sound.{Whole, Kept}
+use Rattle.keeping.specs.MakeRoom.{TakesFrom}
 use Rattle.keeping.proofs.Counts.{few-ceilings}
-use Rattle.keeping.proofs.TakeRange.{rooted, Reserved, reserves-root, TakesFrom, TakenRange, takes-range}
+use Rattle.keeping.proofs.TakeRange.{rooted, Reserved, reserves-root, TakenRange, takes-range}
 use Rattle.judging.specs.Ranges as Ranges
 use Rattle.judging.specs.Rules.{Judge, R1}
 use Rattle.judging.specs.Rules as Rules

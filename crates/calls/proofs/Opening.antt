@@ -21,8 +21,9 @@ use Rattle.tables.specs.declared.Pool as tables
 use Rattle.tables.specs.declared.Outcome.{Outcome}
 use Rattle.tables.specs.declared.Outcome.the-variants.{ShortLog, BadConfiguration}
 use Rattle.tables.proofs.Packs.{roots-count}
+use Rattle.keeping.specs.Open.{Configured}
 use Rattle.keeping.proofs.WellFormedTests.{allowed-of}
-use Rattle.keeping.proofs.Open.{Configured, configured}
+use Rattle.keeping.proofs.Open.{configured}
 use Rattle.driving.specs.Pools.{CallRan}
 use Rattle.driving.specs.declared.Ended.the-variants.{On, Ends}
 use Rattle.driving.specs.declared.Stepped.{Stepped}

@@ -12,7 +12,7 @@ use Rattle.tables.specs.declared.LiveBuffers.{LiveBuffers}
 use Rattle.tables.specs.declared.Pool.{Pool}
 use Rattle.tables.specs.declared.Outcome.the-variants.{Allocated}
 use Rattle.keeping.specs.Sound.{Kept}
-use Rattle.keeping.proofs.HandOver as Triple
+use Rattle.keeping.specs.Malloc.{Handing}
 use Rattle.driving.specs.Ran.{Ran, point}
 use Rattle.driving.specs.Endings.{ending}
 use Rattle.driving.specs.declared.Ended.{Ended}
@@ -28,7 +28,7 @@ pub record Handable (n : ℕ) (r : FreeRegion) (f : FreeRegions) (b : LiveBuffer
   pub live : KeptLive b
   pub lost : ℕ → ℕ
   pub around : Tables
-  pub due : Triple.Handing lost n r (handing f b around)
+  pub due : Handing lost n r (handing f b around)
 
 -- The prefix of `n` bytes is handed over on stream `s`, with no driver call.
 pub record HandsOver (n s : ℕ) (r : FreeRegion) (f : FreeRegions) (b : LiveBuffers) (h : HandedOver) : Type 0 where

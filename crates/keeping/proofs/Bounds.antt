@@ -18,15 +18,16 @@ use Rattle.tables.specs.NewPages.{at}
 use Rattle.tables.specs.Pull.{pagesIn}
 use Rattle.tables.specs.declared.FreeRegion.{FreeRegion}
 use Rattle.tables.specs.declared.Zombie.{Zombie}
-use Rattle.keeping.specs.Cover.{within, equal, coverFree, pagesAt}
+use Rattle.keeping.specs.Cover.{within, equal, coverFree, pagesAt, keysAt}
 use Rattle.keeping.specs.Sound.{WholeRange, Sound}
+use Rattle.keeping.specs.Move.{Movable, Moving}
 use Rattle.keeping.proofs.Cover.{equal-same, equal-positive}
-use Rattle.keeping.proofs.Counting.{keysAt, coverAt}
+use Rattle.keeping.proofs.Counting.{coverAt}
 use Rattle.keeping.proofs.PageStarts.{unaligned-none}
 use Rattle.keeping.proofs.Inside.{count, count-plus, count-within, count-cover, inCommon}
 use Rattle.keeping.proofs.Sounds.{sound-free, sound-range}
 use Rattle.keeping.proofs.InsertFree.{Inserting}
-use Rattle.keeping.proofs.Move.{Moving, Movable, moving-first}
+use Rattle.keeping.proofs.Move.{moving-first}
 
 count-most : (n a : ℕ) (f g : ℕ → ℕ) → ((x : ℕ) → f x ≤ g x) → count n a f ≤ count n a g
 count-most zero a f g h = omega arith

@@ -16,20 +16,16 @@ use Rattle.lists.proofs.Every.{Pairs}
 use Rattle.lists.proofs.Pairs.{pairs-implies, pairs-both, pairs-all, ascends-pairs, rises-pairs}
 use Rattle.lists.proofs.Walks.{sum-filter, sum-none}
 use Rattle.lists.proofs.Filters.{all-passed}
-use Rattle.keeping.specs.Cover.{within, equal}
+use Rattle.keeping.specs.Cover.{within, equal, keysAt}
 use Rattle.keeping.specs.Sound.{WholeRange}
 use Rattle.keeping.proofs.Cover.{within-in, within-out, within-le, equal-same, equal-other, equal-le}
 
 module _ {A : Type 0} (key : A → ℕ) where
-  -- how often a key is `x`: no key is twice just where none counts twice
-  abbrev pub keysAt : List A → ℕ → ℕ
-  keysAt l x = sum (λ a. equal (key a) x) l
-
-  pub none-counted : (x : ℕ) (l : List A) → keysAt l x ≡ 0 → All (λ a. key a ≡ x → ⊥) l
+  pub none-counted : (x : ℕ) (l : List A) → keysAt key l x ≡ 0 → All (λ a. key a ≡ x → ⊥) l
   none-counted x [] e = tt
   none-counted x (a ∷ l) e = (λ q. omega (arith, equal-same x, rw q at e), none-counted x l (omega arith))
 
-  pub once-differ : (l : List A) → ((x : ℕ) → keysAt l x ≤ 1) → Pairs (λ a b. key a ≡ key b → ⊥) l
+  pub once-differ : (l : List A) → ((x : ℕ) → keysAt key l x ≤ 1) → Pairs (λ a b. key a ≡ key b → ⊥) l
   once-differ [] c = tt
   once-differ (a ∷ l) c = (
     all-implies (λ b. key b ≡ key a → ⊥) (λ b. key a ≡ key b → ⊥) (λ b p e. p (sym e)) l
@@ -37,35 +33,35 @@ module _ {A : Type 0} (key : A → ℕ) where
     once-differ l (λ x. omega (arith, c x)),
   )
 
-  none-at : (x : ℕ) (l : List A) → All (λ a. x ≡ key a → ⊥) l → keysAt l x ≡ 0
+  none-at : (x : ℕ) (l : List A) → All (λ a. x ≡ key a → ⊥) l → keysAt key l x ≡ 0
   none-at x l a =
       sum-none (λ a. equal (key a) x) l (all-implies (λ a. x ≡ key a → ⊥) (λ a. equal (key a) x ≡ 0) (λ a p. equal-other (key a) x (λ e. p (rw e))) l a)
 
-  pub differ-once : (l : List A) → Pairs (λ a b. key a ≡ key b → ⊥) l → (x : ℕ) → keysAt l x ≤ 1
+  pub differ-once : (l : List A) → Pairs (λ a b. key a ≡ key b → ⊥) l → (x : ℕ) → keysAt key l x ≤ 1
   differ-once [] r x = omega arith
   differ-once (a ∷ l) r x = ⊎-elim same (λ e. omega (arith, equal-other (key a) x e, differ-once l (r .1) x)) (cases-eq (key a) x)
     where
-      same : key a ≡ x → keysAt (a ∷ l) x ≤ 1
+      same : key a ≡ x → keysAt key (a ∷ l) x ≤ 1
       same e = omega (arith, equal-le (key a) x, none-at x l (rw e at (r .0)))
 
-  pub none-passes : (x : ℕ) (l : List A) → any (λ a. eqb (key a) x) l ≡ false → keysAt l x ≡ 0
+  pub none-passes : (x : ℕ) (l : List A) → any (λ a. eqb (key a) x) l ≡ false → keysAt key l x ≡ 0
   none-passes x l e =
       sum-none (λ a. equal (key a) x) l
       (all-implies (λ a. eqb (key a) x ≡ false) _ (λ a q. equal-other (key a) x (eqb-false (key a) x q)) l (any-none (λ a. eqb (key a) x) l e))
 
   -- keys that rise are each there once
-  pub rises-once : (b x : ℕ) (l : List A) → Rises key b l → keysAt l x ≤ 1
+  pub rises-once : (b x : ℕ) (l : List A) → Rises key b l → keysAt key l x ≤ 1
   rises-once b x l r =
       differ-once l (pairs-implies (λ a b. key a < key b) (λ a b. key a ≡ key b → ⊥) (λ a b p e. omega arith) l (rises-pairs key b l r)) x
 
   -- a filter by key keeps none of a key that does not pass, and all of one that does
-  pub count-dropped : (p : ℕ → Bool) (x : ℕ) (l : List A) → p x ≡ false → keysAt (filter (λ a. p (key a)) l) x ≡ 0
+  pub count-dropped : (p : ℕ → Bool) (x : ℕ) (l : List A) → p x ≡ false → keysAt key (filter (λ a. p (key a)) l) x ≡ 0
   count-dropped p x l e =
       sum-none (λ a. equal (key a) x) (filter (λ a. p (key a)) l)
       (all-implies (λ a. p (key a) ≡ true) _ (λ a q. equal-other (key a) x (λ s. false≢true (sym e ∙ (rw s at q)))) (filter (λ a. p (key a)) l)
       (all-passed (λ a. p (key a)) l))
 
-  pub count-kept : (p : ℕ → Bool) (x : ℕ) (l : List A) → p x ≡ true → keysAt (filter (λ a. p (key a)) l) x ≡ keysAt l x
+  pub count-kept : (p : ℕ → Bool) (x : ℕ) (l : List A) → p x ≡ true → keysAt key (filter (λ a. p (key a)) l) x ≡ keysAt key l x
   count-kept p x l e =
       omega (arith, sum-filter (λ a. equal (key a) x) (λ a. p (key a)) l, count-dropped (λ y. not (p y)) x l (rw e))
 

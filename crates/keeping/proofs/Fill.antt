@@ -25,22 +25,16 @@ use Rattle.keeping.specs.Sound as S
 use Rattle.keeping.specs.Sound.{Whole, WholeRange, Sound, Left}
 use Rattle.keeping.specs.Counts.{Few, Pullable, Known}
 use Rattle.keeping.specs.Holds.{Holds}
+use Rattle.keeping.specs.MakeRoom.{Made, Measured}
+use Rattle.keeping.specs.Pull.{Pulling, Spare}
 use Rattle.keeping.proofs.Cover.{within-in, within-none, within-cut}
 use Rattle.keeping.proofs.Whole.{aligned-sub, whole-past}
 use Rattle.keeping.proofs.Sounds.{sound-as, sound-drop, sound-drop-none}
-use Rattle.keeping.proofs.NewPages.{PagesTo, making-ceilings, made-sound, made-whole}
+use Rattle.keeping.proofs.NewPages.{making-ceilings, made-sound, made-whole}
 use Rattle.keeping.proofs.InsertFree.{Inserting, Inserted, inserts-free-pullable}
-use Rattle.keeping.proofs.Pull.{Pulling}
 use Rattle.keeping.proofs.PullOrder.{pulling-all, pulling-others}
-use Rattle.keeping.proofs.PullIn.{PulledIn, Spare, pulls-in}
+use Rattle.keeping.proofs.PullIn.{PulledIn, pulls-in}
 use Rattle.keeping.proofs.Holds.{holds-from, holds-to, holds-named, holds-then, holds-give, holds-looked, holds-cond, holds-must, drives-access}
-
--- The range taken is of whole pages, and `f` free bytes make up what is not missing.
-pub record Measured (p f : ℕ) (o : Room) : Type 0 where
-  pub start : Whole p (o .start)
-  pub size : Whole p (o .size)
-  pub pages : o .missing % p ≡ 0
-  pub rest : o .missing ≡ o .size - f
 
 -- What was missing is free as part of `r`; the rest of the range is in hand, and the other regions can be pulled.
 pub record Newly (lost : ℕ → ℕ) (p f : ℕ) (o : Room) (r : FreeRegion) (t : Tables) : Type 0 where
@@ -66,16 +60,12 @@ pub record Filled (lost : ℕ → ℕ) (n s d : ℕ) (r : FreeRegion) (t : Table
   pub room : (r .size ≡ n) ⊎ (length (t .free) + length (t .live) ≤ 127)
 
 module _ (lost : ℕ → ℕ) (p f : ℕ) (o : Room) where
-  -- all missing pages are made
-  abbrev pub Made : Tables → Type 0
-  Made = PagesTo lost p f 0 (o .start) (o .size) (o .start + o .missing)
-
   abbrev pub Ready : Option FreeRegion → Tables → Type 0
-  Ready none t = (o .missing ≡ 0) × Made t
+  Ready none t = (o .missing ≡ 0) × Made lost p f o t
   Ready (some r) t = Newly lost p f o r t
 
   -- the pages made are in hand, bare
-  pub made-inserting : 0 < o .missing → (u : Tables) → Made u →
+  pub made-inserting : 0 < o .missing → (u : Tables) → Made lost p f o u →
       Inserting lost (within (o .start + o .missing) (o .size - o .missing)) S.none p f (o .start) (o .missing) (u .free) u
   made-inserting pos u w =
       record {
@@ -86,7 +76,7 @@ module _ (lost : ℕ → ℕ) (p f : ℕ) (o : Room) where
         list = refl;
       }
 
-  pub inserts-new : Holds Made (insertNew o) Ready (Left lost)
+  pub inserts-new : Holds (Made lost p f o) (insertNew o) Ready (Left lost)
   unfolding insertNew
   inserts-new =
       holds-cond (eqb (o .missing) 0) (λ e. holds-from (λ t w. (eqb-true (o .missing) 0 e, w)) (holds-give none))
@@ -117,9 +107,9 @@ module _ (lost : ℕ → ℕ) (p f : ℕ) (o : Room) where
           }
 
       inserts : 0 < m →
-          Holds Made (must (access a m) >> (insertFree a m (o .stream) >>= λ r. give (some r))) Ready (Left lost)
+          Holds (Made lost p f o) (must (access a m) >> (insertFree a m (o .stream) >>= λ r. give (some r))) Ready (Left lost)
       inserts pos =
-          holds-then (λ _. Made) (holds-must (drives-access a m) (λ t w. tt) (λ c t w. making-ceilings (w .making)))
+          holds-then (λ _. Made lost p f o) (holds-must (drives-access a m) (λ t w. tt) (λ c t w. making-ceilings (w .making)))
           (λ _. holds-named (λ u w.
           holds-from (λ t e. rw e (made-inserting pos u w, w .making .pullable))
           (holds-then _ (inserts-free-pullable lost rest S.none p f a m (o .stream) (u .free))
@@ -253,7 +243,7 @@ module _ (lost : ℕ → ℕ) (p f : ℕ) (o : Room) (g : Measured p f o) (r : F
         }
 
     -- every other region is pulled whole
-    pub behind-spare : Spare lost left p lacks 128 (r ∷ []) others o
+    pub behind-spare : Spare lacks 128 others
     behind-spare = inr (others-all, (others-some, omega arith))
 
     fills-behind : Holds (λ t. t ≡ u) (pullIn o lacks others) (Filled lost (o .size) (o .stream) extra) (Left lost)

@@ -1,12 +1,12 @@
 -- Handing over: the region's first bytes become a live buffer and a rest stays free, so that together they cover what the region covered.
 -- Nothing else starts in the region, so both have their place by address. Assumes nothing.
 use mathlib.Core.Path.{_≡_}
-use mathlib.Core.Logic.{_⊎_, ⊎-elim}
+use mathlib.Core.Logic.{⊎-elim}
 use mathlib.Core.List.{List}
 use Prim.Native.Nat.{ℕ, _+_, _-_, _≤_, _<_}
 use native.Mathlib.Omega.{arith}
 use lib.ListN.{length}
-use Rattle.lists.specs.Tests.{All, Member}
+use Rattle.lists.specs.Tests.{All}
 use Rattle.lists.specs.Order.{put}
 use Rattle.lists.proofs.Order.{length-put, sum-put, all-put}
 use Rattle.lists.proofs.Members.{member-all, all-without, rises-without, sum-without, length-without, rises-put}
@@ -18,23 +18,14 @@ use Rattle.tables.specs.declared.FreeRegion.{FreeRegion}
 use Rattle.tables.specs.declared.LiveBuffer.{LiveBuffer}
 use Rattle.tables.specs.declared.Outcome.{Outcome}
 use Rattle.keeping.specs.Cover.{within, equal, coverFree, coverLive}
-use Rattle.keeping.specs.Sound.{none, Whole, WholeRange, Sound, Kept}
-use Rattle.keeping.specs.Counts.{Few}
+use Rattle.keeping.specs.Sound.{none, WholeRange, Kept}
 use Rattle.keeping.specs.Holds.{Holds}
+use Rattle.keeping.specs.Malloc.{Handing}
 use Rattle.keeping.proofs.Whole.{whole-upper}
 use Rattle.keeping.proofs.Counts.{few-spans, few-ceilings}
 use Rattle.keeping.proofs.Rest.{cover-putRest, ids-putRest, length-putNone, length-putRest, all-putRest, rises-putRest}
 use Rattle.keeping.proofs.Counting.{none-starts}
 use Rattle.keeping.proofs.Sounds.{sound-alone, Spans, sound-spans}
-
-pub record Handing (lost : ℕ → ℕ) (n : ℕ) (r : FreeRegion) (t : Tables) : Type 0 where
-  pub sound : Sound lost none none t
-  pub member : Member r (t .free)
-  pub size : Whole (t .page) n
-  pub most : n ≤ r .size
-  pub few : Few 0 128 t
-  -- a rest has room
-  pub room : (r .size ≡ n) ⊎ (length (t .free) + length (t .live) ≤ 127)
 
 -- the free regions but `r`, then with the rest of `r`, and the live buffers with the one handed over
 abbrev others : FreeRegion → Tables → List FreeRegion

@@ -48,12 +48,14 @@ use Rattle.tables.specs.declared.Outcome.the-variants.{
 }
 use Rattle.keeping.specs.Sound.{none, Ceilings, Kept, KeptBut, Left}
 use Rattle.keeping.specs.Holds.{After, Holds}
+use Rattle.keeping.specs.Malloc.{Asked}
+use Rattle.keeping.specs.Open.{Configured}
 use Rattle.keeping.proofs.WellFormedLeaves.{ceilings-pass}
 use Rattle.keeping.proofs.Sounds.{sound-drop-none}
 use Rattle.keeping.proofs.Holds.{holds-from, holds-any, holds-then, holds-give}
 use Rattle.keeping.proofs.FreeCall.{frees}
-use Rattle.keeping.proofs.Malloc.{Asked, mallocs}
-use Rattle.keeping.proofs.Open.{Configured, OpenedKept, opens-kept}
+use Rattle.keeping.proofs.Malloc.{mallocs}
+use Rattle.keeping.proofs.Open.{OpenedKept, opens-kept}
 
 -- By the number of an outcome.
 pub record LeftBy (K : Tables → Type 0) (o : Outcome) (t : Tables) : Type 0 where

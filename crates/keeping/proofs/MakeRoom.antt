@@ -20,10 +20,11 @@ use Rattle.keeping.specs.Sound as S
 use Rattle.keeping.specs.Sound.{Whole, Sound, Left}
 use Rattle.keeping.specs.Counts.{Few}
 use Rattle.keeping.specs.Holds.{Holds}
+use Rattle.keeping.specs.MakeRoom.{TakesFrom, PagesTo, Made, Measured}
 use Rattle.keeping.proofs.Whole.{aligned-rest, aligned-sub, whole-bytes}
-use Rattle.keeping.proofs.TakeRange.{TakesFrom, TakenRange, takes-range}
-use Rattle.keeping.proofs.NewPages.{PagesTo, pages-begin, makes-missing}
-use Rattle.keeping.proofs.Fill.{Measured, Newly, Filled, Made, Ready, inserts-new, newly-most, fills-all, fills-rest}
+use Rattle.keeping.proofs.TakeRange.{TakenRange, takes-range}
+use Rattle.keeping.proofs.NewPages.{pages-begin, makes-missing}
+use Rattle.keeping.proofs.Fill.{Newly, Filled, Ready, inserts-new, newly-most, fills-all, fills-rest}
 use Rattle.keeping.proofs.Holds.{holds-from, holds-to, holds-named, holds-then, holds-looked}
 
 -- At most what was free is dropped, and nothing where the free bytes suffice.

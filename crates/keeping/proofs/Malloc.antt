@@ -22,13 +22,14 @@ use Rattle.tables.specs.declared.Outcome.the-variants.{RequestedExceedsVa, Page
 use Rattle.keeping.specs.Cover.{within}
 use Rattle.keeping.specs.Sound.{Whole, Kept, KeptBut, Left}
 use Rattle.keeping.specs.Holds.{Holds}
+use Rattle.keeping.specs.MakeRoom.{TakesFrom}
+use Rattle.keeping.specs.Malloc.{Asked, Handing}
 use Rattle.keeping.proofs.Sounds.{sound-drop-none}
 use Rattle.keeping.proofs.Counts.{ceilings-few}
-use Rattle.keeping.proofs.TakeRange.{TakesFrom}
 use Rattle.keeping.proofs.MakeRoom.{Dropped, Roomed, makes-room}
 use Rattle.keeping.proofs.Cleanup.{cleans-up}
 use Rattle.keeping.proofs.Fit.{Fitting, Fitted, fits}
-use Rattle.keeping.proofs.HandOver.{Handing, hands-over}
+use Rattle.keeping.proofs.HandOver.{hands-over}
 use Rattle.keeping.proofs.Holds.{holds-from, holds-to, holds-given, holds-named, holds-then, holds-give, holds-looked, holds-endIf}
 
 -- `lost`, and a range that is dropped
@@ -141,10 +142,6 @@ hands-out : (lost : ℕ → ℕ) (f n s : ℕ) (r : FreeRegion) → Holds (Hande
 hands-out lost f n s r =
     holds-named (λ u w.
     holds-from (λ t e. rw e (w .1 .1)) (holds-to (λ _ t k. (w .0, (w .1 .0, k))) (hands-over (losing lost (w .0)) n s r)))
-
--- what malloc starts from: a size of whole pages, and a span to spare
-abbrev pub Asked : (ℕ → ℕ) → ℕ → Tables → Type 0
-Asked lost n t = Kept lost t × (Whole (t .page) n × (length (t .free) + length (t .live) ≤ 127))
 
 -- malloc starts from what stands through cleanup and fit, where `f` bytes are free
 pub begins : (lost : ℕ → ℕ) (n f : ℕ) (u : Tables) → Asked lost n u → bytes (u .free) ≡ f → Fitting lost (u .page) f 127 u

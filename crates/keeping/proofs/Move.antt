@@ -21,13 +21,14 @@ use Rattle.tables.specs.Pull.{pagesIn, handleAt, movePages}
 use Rattle.tables.specs.declared.FreeRegion.{FreeRegion}
 use Rattle.tables.specs.declared.Zombie.{Zombie}
 use Rattle.tables.specs.declared.Page.{Page}
-use Rattle.keeping.specs.Cover.{within, equal, coverZombies, pagesAt}
+use Rattle.keeping.specs.Cover.{within, equal, coverZombies, pagesAt, keysAt}
 use Rattle.keeping.specs.Sound.{none, Sound, Whole, WholeRange, Ceilings, Left}
 use Rattle.keeping.specs.Counts.{Few}
+use Rattle.keeping.specs.Move.{Movable, Moving}
 use Rattle.keeping.specs.Holds.{Holds}
 use Rattle.keeping.proofs.Cover.{within-join, within-none, within-out, equal-same, equal-positive}
 use Rattle.keeping.proofs.Whole.{whole-past, within-page}
-use Rattle.keeping.proofs.Counting.{keysAt, none-counted}
+use Rattle.keeping.proofs.Counting.{none-counted}
 use Rattle.keeping.proofs.Sounds.{sound-bare, sound-pages}
 use Rattle.keeping.proofs.NewPages.{holds-mapPage}
 use Rattle.keeping.proofs.Pull.{Pulled}
@@ -84,18 +85,6 @@ module _ (lost hand before : ℕ → ℕ) (b : ℕ) (t : Tables) (w : Sound lost
 
       same : handleAt b (t .pages) ≡ g .handle .0
       same = rw (← e) (handleAt-is 0 g (t .pages) (w .pagesRise) m)
-
--- While the pages at `bs` are still to be moved to `a` and on, and those before them fill the range from `base` up to `a`.
-pub record Moving (lost hand : ℕ → ℕ) (p base a c : ℕ) (f : List FreeRegion) (bs : List ℕ) (t : Tables) : Type 0 where
-  pub sound : Sound lost hand (λ x. keysAt (λ b. b) bs x + within base (a - base) x) t
-  pub starts : All (Whole p) bs
-  pub apart : (x : ℕ) → x % p ≡ 0 → keysAt (λ b. b) bs x + hand x ≤ 1
-  pub whole : Whole p a
-  pub past : base ≤ a
-  pub room : (x : ℕ) → a ≤ x → x < a + length bs * p → hand x ≡ 1
-  pub few : Few 0 c t
-  pub page : t .page ≡ p
-  pub free : t .free ≡ f
 
 module _ (lost hand : ℕ → ℕ) (p base a c : ℕ) (f : List FreeRegion) (b : ℕ) (bs : List ℕ) (t : Tables) (w : Moving lost hand p base a c f (b ∷ bs) t) where
   -- the page at `b`
@@ -186,17 +175,6 @@ holds-moves lost hand p base a c f (b ∷ bs) bound = holds-looked (λ u w. one 
         (holds-mapPage a (handleAt b (u .pages)) _ (λ t q. tt) (λ k t q. rw q (ceilings-unpaged lost hand p base a c f b bs u w bound))
         (λ t q. rw q (moving-next lost hand p base a c f b bs u w)))
         (λ _. rw (w .page) next)))
-
--- The pages of the zombies `zs` are to be moved to the range from `a` on, which is in hand.
-pub record Movable (lost hand : ℕ → ℕ) (p a c : ℕ) (f : List FreeRegion) (zs : List Zombie) (t : Tables) : Type 0 where
-  pub sound : Sound lost hand (coverZombies zs) t
-  pub ranges : All (λ z. WholeRange p (z .start .0) (z .size)) zs
-  pub among : (x : ℕ) → coverZombies zs x ≤ coverZombies (t .zombies) x
-  pub whole : Whole p a
-  pub room : (x : ℕ) → a ≤ x → x < a + sum (λ z. z .size) zs → hand x ≡ 1
-  pub few : Few 0 c t
-  pub page : t .page ≡ p
-  pub free : t .free ≡ f
 
 -- They are there: just the range is bare.
 pub record Moved (lost hand : ℕ → ℕ) (p a n c : ℕ) (f : List FreeRegion) (t : Tables) : Type 0 where

@@ -40,6 +40,7 @@ use Rattle.keeping.specs.Cover.{within, equal, pagesAt, handlesAt}
 use Rattle.keeping.specs.Sound.{none, Whole, WholeRange, Sound, Ceilings, Kept, Left}
 use Rattle.keeping.specs.Counts.{Making}
 use Rattle.keeping.specs.Holds.{Holds}
+use Rattle.keeping.specs.MakeRoom.{PagesTo}
 use Rattle.keeping.proofs.Holds.{
   holds-from,
   holds-to,
@@ -71,15 +72,6 @@ pub holds-mapPage : (a h : ℕ) {P : Tables → Type 0} {E : Outcome → Tables 
     Holds P (mapPage a h) (λ _. Q) E
 unfolding mapPage
 holds-mapPage a h {P} Q short fails put = holds-then (λ _. P) (holds-must (drives-map a h) short fails) (λ _. holds-change _ put)
-
--- The range of `n` bytes from `s` is in hand, and its pages are made from `s` up to `a`; `k` more are to be made.
-pub record PagesTo (lost : ℕ → ℕ) (p f k s n a : ℕ) (t : Tables) : Type 0 where
-  pub sound : Sound lost (within s n) (within s (a - s)) t
-  pub start : Whole (t .page) s
-  pub size : Whole (t .page) n
-  pub place : (s ≤ a) × ((a - s) % t .page ≡ 0)
-  pub fits : a + k * p ≤ s + n
-  pub making : Making p f k s n t
 
 -- While a rollback goes on: the new pages `m` are still to be taken out.
 record Unmaking (lost : ℕ → ℕ) (p f k s n : ℕ) (m : List Page) (t : Tables) : Type 0 where

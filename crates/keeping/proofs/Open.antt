@@ -3,7 +3,7 @@ use mathlib.Core.Path.{_≡_, refl, _∙_}
 use mathlib.Core.Logic.{inl}
 use mathlib.Core.Bool.{false, not}
 use mathlib.Core.List.{[]}
-use Prim.Native.Nat.{ℕ, _+_, _-_, _*_, _≤_, _<_, _/_, _%_, _^_}
+use Prim.Native.Nat.{ℕ, _+_, _-_, _*_, _<_, _/_, _%_}
 use native.Mathlib.Omega.{arith}
 use native.Mathlib.Nat.{mul-div-cancel, mul-mod-left, mul-pos}
 use borrow.Author.Tests.{eqb-false, ltb-false, not-false}
@@ -21,24 +21,18 @@ use Rattle.tables.specs.WellFormed.{allowed}
 use Rattle.tables.specs.declared.FreeRegion.{FreeRegion}
 use Rattle.tables.specs.declared.Outcome.the-variants.{Opened}
 use Rattle.keeping.specs.Cover.{within, coverRoots}
-use Rattle.keeping.specs.Sound.{none, Whole, WholeRange, Sound, Kept, Left}
+use Rattle.keeping.specs.Sound.{none, WholeRange, Sound, Kept, Left}
 use Rattle.keeping.specs.Holds.{Holds}
+use Rattle.keeping.specs.MakeRoom.{TakesFrom}
+use Rattle.keeping.specs.Open.{Configured}
 use Rattle.keeping.proofs.Cover.{within-in, within-none}
 use Rattle.keeping.proofs.Holes.{length-hole}
 use Rattle.keeping.proofs.Sounds.{sound-as, sound-undropped}
 use Rattle.keeping.proofs.Counts.{few-ceilings}
 use Rattle.keeping.proofs.WellFormedTests.{allowed-of}
-use Rattle.keeping.proofs.TakeRange.{Reserved, rooted, reserves-root, TakesFrom}
+use Rattle.keeping.proofs.TakeRange.{Reserved, rooted, reserves-root}
 use Rattle.keeping.proofs.MakeRoom.{Roomed, makes-room}
 use Rattle.keeping.proofs.Holds.{holds-from, holds-to, holds-then, holds-give, holds-looked, holds-cond, holds-must, drives-sync}
-
--- the page size, va_size and the initial pages as open allows them
-pub record Configured (page va initial : ℕ) : Type 0 where
-  pub positive : 0 < page
-  pub whole : Whole page va
-  pub small : va ≤ 2 ^ 46
-  pub few : initial ≤ 256
-  pub fits : initial * page ≤ va
 
 -- 19 is what refuses every other configuration.
 pub configured : (granularity override va initial : ℕ) → badConfiguration granularity override va initial ≡ false →

@@ -14,11 +14,11 @@ use Rattle.lists.proofs.Walks.{sum-joined, sum-equal, sum-none}
 use Rattle.lists.proofs.Pairs.{all-joined, pairs-joined}
 use Rattle.tables.specs.Pull.{starts}
 use Rattle.tables.specs.WellFormed.{Range, upto}
-use Rattle.keeping.specs.Cover.{within, equal}
+use Rattle.keeping.specs.Cover.{within, equal, keysAt}
 use Rattle.keeping.specs.Sound.{Whole, WholeRange}
 use Rattle.keeping.proofs.Cover.{within-join, within-none, equal-other}
 use Rattle.keeping.proofs.Whole.{aligned-next, aligned-pages, within-page, whole-past}
-use Rattle.keeping.proofs.Counting.{keysAt, coverAt}
+use Rattle.keeping.proofs.Counting.{coverAt}
 
 count-starts : (p : ℕ) → 0 < p → (k a x : ℕ) → a % p ≡ 0 → x % p ≡ 0 → keysAt (λ s. s) (starts k a p) x ≡ within a (k * p) x
 count-starts p h zero a x e f =

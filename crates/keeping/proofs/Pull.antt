@@ -24,6 +24,7 @@ use Rattle.tables.specs.declared.Outcome.the-variants.{DriverFailed, AnswersRan
 use Rattle.keeping.specs.Cover.{within, equal, coverFree, coverZombies}
 use Rattle.keeping.specs.Sound.{Sound, WholeRange, Ceilings, Left}
 use Rattle.keeping.specs.Counts.{Few}
+use Rattle.keeping.specs.Pull.{Pulling}
 use Rattle.keeping.specs.Holds.{Holds}
 use Rattle.keeping.proofs.Cover.{equal-same}
 use Rattle.keeping.proofs.Counting.{none-starts}
@@ -82,20 +83,6 @@ module _ (lost hand bare : ℕ → ℕ) (t : Tables) (w : Sound lost hand bare t
 
       zombies : (x : ℕ) → coverZombies (t .zombies ++ part n r ∷ []) x ≡ coverZombies (t .zombies) x + within (from r) n x
       zombies x = omega (arith, sum-append (λ z. within (z .start .0) (z .size) x) (t .zombies) (part n r ∷ []))
-
--- While the regions `l` are still to be pulled, up to `lacks` bytes, and the regions `keep` stay. `bare` covers the parts taken so far, which are among
--- the zombies.
-pub record Pulling (lost hand bare : ℕ → ℕ) (p lacks c : ℕ) (keep l : List FreeRegion) (t : Tables) : Type 0 where
-  pub sound : Sound lost hand bare t
-  pub members : All (λ r. Member r (t .free)) l
-  pub kept : All (λ r. Member r (t .free)) keep
-  pub apart : (a : ℕ) → sum (λ r. equal (r .start .0) a) l + sum (λ r. equal (r .start .0) a) keep ≤ 1
-  pub zombies : length (t .zombies) + length l ≤ 128
-  pub holes : length (t .holes) + length (t .zombies) + length l ≤ 512
-  pub few : Few 0 c t
-  pub lacking : (lacks % p ≡ 0) × (t .page ≡ p)
-  pub enough : lacks ≤ bytes l
-  pub among : (x : ℕ) → bare x ≤ coverZombies (t .zombies) x
 
 -- `zs` are the parts taken: their pages are still active, and they are among the zombies. Spans do not grow: a region was taken out for each rest that
 -- was put in; where nothing is left over, no region of `l` is left.

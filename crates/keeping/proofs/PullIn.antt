@@ -1,9 +1,9 @@
 -- Pull in: regions are pulled as far as bytes lack, their pages are moved to a range in hand, and that range is inserted as free. Pulling leaves a span
 -- for it, or a region was pulled whole. Assumes nothing.
 use mathlib.Core.Path.{_≡_, refl, ap}
-use mathlib.Core.Logic.{_⊎_, ⊎-elim}
+use mathlib.Core.Logic.{⊎-elim}
 use mathlib.Core.List.{List, []}
-use Prim.Native.Nat.{ℕ, _+_, _≤_, _<_}
+use Prim.Native.Nat.{ℕ, _+_, _≤_}
 use native.Mathlib.Omega.{arith}
 use lib.ListN.{length}
 use Rattle.lists.specs.Tests.{All, Member}
@@ -13,19 +13,20 @@ use Rattle.tables.specs.Steps.{_>>_}
 use Rattle.tables.specs.Driver.{must, access}
 use Rattle.tables.specs.InsertFree.{bytes, insertFree}
 use Rattle.tables.specs.NewPages.{Room}
-use Rattle.tables.specs.Pull.{pullOrder, pagesIn, movePages, pullIn}
+use Rattle.tables.specs.Pull.{pagesIn, movePages, pullIn}
 use Rattle.tables.specs.declared.FreeRegion.{FreeRegion}
 use Rattle.tables.specs.declared.Zombie.{Zombie}
-use Rattle.keeping.specs.Cover.{within}
 use Rattle.keeping.specs.Sound.{none, WholeRange, Left}
 use Rattle.keeping.specs.Holds.{Holds}
+use Rattle.keeping.specs.Pull.{Pulling, place, filling, order, Spare}
+use Rattle.keeping.specs.Move.{Movable}
 use Rattle.keeping.proofs.Cover.{within-in}
 use Rattle.keeping.proofs.Sounds.{sound-as, sound-once}
 use Rattle.keeping.proofs.Counts.{few-ceilings}
 use Rattle.keeping.proofs.InsertFree.{Inserting, Inserted, inserts-free}
-use Rattle.keeping.proofs.Pull.{Pulling, Pulled, pulls}
+use Rattle.keeping.proofs.Pull.{Pulled, pulls}
 use Rattle.keeping.proofs.PullOrder.{sum-pullOrder, length-pullOrder}
-use Rattle.keeping.proofs.Move.{Movable, Moved, moves-pages, pulled-movable}
+use Rattle.keeping.proofs.Move.{Moved, moves-pages, pulled-movable}
 use Rattle.keeping.proofs.Holds.{holds-from, holds-to, holds-then, holds-looked, holds-must, drives-access}
 
 -- The range of `n` bytes from `a` is free as part of `r`, and the regions `keep` were free just before.
@@ -35,26 +36,19 @@ pub record PulledIn (lost rest : ℕ → ℕ) (p a n s : ℕ) (keep : List FreeR
   pub kept : All (λ q. Member q before) keep
 
 module _ (lost rest : ℕ → ℕ) (p lacks c : ℕ) (keep others : List FreeRegion) (o : Room) where
-  abbrev pub place : ℕ
-  place = o .start + o .missing
+  -- where the range starts, and what is in hand
+  abbrev to : ℕ
+  to = place o
 
-  -- the range to be filled, and what else is in hand
-  abbrev pub filling : ℕ → ℕ
-  filling x = rest x + within place lacks x
+  abbrev hand : ℕ → ℕ
+  hand = filling rest lacks o
 
-  abbrev pub order : List FreeRegion
-  order = pullOrder (o .stream) others
-
-  -- a span to spare: from the first, or since every region of the order is pulled whole
-  abbrev pub Spare : Type 0
-  Spare = (c ≤ 127) ⊎ ((lacks ≡ bytes others) × ((0 < length others) × (c ≤ 128)))
-
-  pub spare-most : Spare → c ≤ 128
+  pub spare-most : Spare lacks c others → c ≤ 128
   spare-most w = ⊎-elim (λ e. omega arith) (λ e. e .1 .1) w
 
-  module _ (range : WholeRange p place lacks) (spare : Spare) where
-    pub pulled-spare : (zs : List Zombie) (t : Tables) → Pulled lost filling none p lacks c keep order zs t →
-        Pulled lost filling none p lacks 127 keep [] zs t
+  module _ (range : WholeRange p to lacks) (spare : Spare lacks c others) where
+    pub pulled-spare : (zs : List Zombie) (t : Tables) → Pulled lost hand none p lacks c keep (order others o) zs t →
+        Pulled lost hand none p lacks 127 keep [] zs t
     pulled-spare zs t w =
         record {
           sound = w .sound;
@@ -74,7 +68,7 @@ module _ (lost rest : ℕ → ℕ) (p lacks c : ℕ) (keep others : List FreeReg
           fewer = λ e. absurd (omega (arith, range .size .positive));
         }
       where
-        spans : Spare → length (t .free) + length (t .live) ≤ 127
+        spans : Spare lacks c others → length (t .free) + length (t .live) ≤ 127
         spans e =
             ⊎-elim
             (λ h. omega (arith, w .few .spans))
@@ -89,14 +83,14 @@ module _ (lost rest : ℕ → ℕ) (p lacks c : ℕ) (keep others : List FreeReg
             e
 
     -- the pages of the parts pulled can be moved into the range
-    pub pulled-fills : (zs : List Zombie) (u : Tables) → Pulled lost filling none p lacks 127 keep [] zs u → Movable lost filling p place 127 (u .free) zs u
+    pub pulled-fills : (zs : List Zombie) (u : Tables) → Pulled lost hand none p lacks 127 keep [] zs u → Movable lost hand p to 127 (u .free) zs u
     pulled-fills zs u w =
-        pulled-movable lost filling p place 127 (u .free) zs lacks keep [] u w refl (range .start)
-        (λ x le lt. omega (arith, sound-once (w .sound) x, within-in place lacks x le lt))
+        pulled-movable lost hand p to 127 (u .free) zs lacks keep [] u w refl (range .start)
+        (λ x le lt. omega (arith, sound-once (w .sound) x, within-in to lacks x le lt))
 
     -- the pages are there
-    pub moved-inserting : (n : ℕ) (l : List FreeRegion) (t : Tables) → n ≡ lacks → Moved lost filling p place n 127 l t →
-        Inserting lost rest none p (bytes l) place lacks l t
+    pub moved-inserting : (n : ℕ) (l : List FreeRegion) (t : Tables) → n ≡ lacks → Moved lost hand p to n 127 l t →
+        Inserting lost rest none p (bytes l) to lacks l t
     moved-inserting n l t e w =
         record {
           sound = sound-as (w .sound) (λ x. omega arith) (λ x. rw e (omega arith));
@@ -106,22 +100,22 @@ module _ (lost rest : ℕ → ℕ) (p lacks c : ℕ) (keep others : List FreeReg
           list = w .free;
         }
 
-    pub pulls-in : Holds (Pulling lost filling none p lacks c keep order) (pullIn o lacks others) (PulledIn lost rest p place lacks (o .stream) keep) (Left lost)
+    pub pulls-in : Holds (Pulling lost hand none p lacks c keep (order others o)) (pullIn o lacks others) (PulledIn lost rest p to lacks (o .stream) keep) (Left lost)
     unfolding pullIn
     pulls-in =
-        holds-then (Pulled lost filling none p lacks c keep order) (pulls lost filling none p (o .stream) lacks c keep order (spare-most spare))
+        holds-then (Pulled lost hand none p lacks c keep (order others o)) (pulls lost hand none p (o .stream) lacks c keep (order others o) (spare-most spare))
         (λ zs. holds-looked (λ u w.
         let v = pulled-spare zs u w in
-        holds-from {P = Movable lost filling p place 127 (u .free) zs} (λ t e. rw e (pulled-fills zs u v)) (rw (w .page) (fills zs (u .free) (v .total) (v .kept)))))
+        holds-from {P = Movable lost hand p to 127 (u .free) zs} (λ t e. rw e (pulled-fills zs u v)) (rw (w .page) (fills zs (u .free) (v .total) (v .kept)))))
       where
         fills : (zs : List Zombie) (l : List FreeRegion) → sum (λ z. z .size) zs ≡ lacks → All (λ q. Member q l) keep →
-            Holds (Movable lost filling p place 127 l zs) (movePages (pagesIn p zs) place >> (must (access place lacks) >> insertFree place lacks (o .stream)))
-            (PulledIn lost rest p place lacks (o .stream) keep) (Left lost)
+            Holds (Movable lost hand p to 127 l zs) (movePages (pagesIn p zs) to >> (must (access to lacks) >> insertFree to lacks (o .stream)))
+            (PulledIn lost rest p to lacks (o .stream) keep) (Left lost)
         fills zs l total kept =
             let n = sum (λ z. z .size) zs in
-            holds-then (λ _. Moved lost filling p place n 127 l) (moves-pages lost filling p place 127 l zs (omega arith))
-            (λ _. holds-then (λ _. Moved lost filling p place n 127 l)
-            (holds-must (drives-access place lacks) (λ t m. tt) (λ k t m. few-ceilings (omega arith) (m .few)))
+            holds-then (λ _. Moved lost hand p to n 127 l) (moves-pages lost hand p to 127 l zs (omega arith))
+            (λ _. holds-then (λ _. Moved lost hand p to n 127 l)
+            (holds-must (drives-access to lacks) (λ t m. tt) (λ k t m. few-ceilings (omega arith) (m .few)))
             (λ _. holds-from (λ t m. moved-inserting n l t total m)
             (holds-to (λ r t i. record { before = l; inserted = i; kept = kept })
-            (inserts-free lost rest none p (bytes l) place lacks (o .stream) l))))
+            (inserts-free lost rest none p (bytes l) to lacks (o .stream) l))))

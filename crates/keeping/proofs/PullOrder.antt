@@ -20,8 +20,8 @@ use Rattle.tables.specs.declared.FreeRegion.{FreeRegion}
 use Rattle.keeping.specs.Cover.{equal}
 use Rattle.keeping.specs.Sound.{Sound, none}
 use Rattle.keeping.specs.Counts.{Few, Pullable}
+use Rattle.keeping.specs.Pull.{Pulling}
 use Rattle.keeping.proofs.Counting.{rises-once}
-use Rattle.keeping.proofs.Pull.{Pulling}
 
 module _ (s : ℕ) (l : List FreeRegion) where
   pub sum-pullOrder : (f : FreeRegion → ℕ) → sum f (pullOrder s l) ≡ sum f l

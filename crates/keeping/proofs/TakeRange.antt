@@ -18,14 +18,14 @@ use Rattle.words.specs.declared.Address.{Address}
 use Rattle.tables.specs.Values.{Tables, address, withHoles, withRoots}
 use Rattle.tables.specs.InsertHole.{from, insertHole}
 use Rattle.tables.specs.TakeRange.{smallestHole, cutHole, apart, credible, reserveRoot, takeHole, takeRange}
-use Rattle.tables.specs.Malloc.{noHole}
 use Rattle.tables.specs.declared.Hole.{Hole}
 use Rattle.tables.specs.declared.Outcome.the-variants.{ReserveFailed, Incredible}
 use Rattle.keeping.specs.Cover.{within, coverHoles, coverRoots}
 use Rattle.keeping.specs.Sound as S
 use Rattle.keeping.specs.Sound.{Whole, WholeRange, Sound, Kept, Left}
-use Rattle.keeping.specs.Counts.{Few, Known, Making}
+use Rattle.keeping.specs.Counts.{Making}
 use Rattle.keeping.specs.Holds.{Holds}
+use Rattle.keeping.specs.MakeRoom.{TakesFrom}
 use Rattle.keeping.proofs.Cover.{within-le, within-out, within-cut}
 use Rattle.keeping.proofs.Whole.{whole-upper}
 use Rattle.keeping.proofs.Holes.{
@@ -122,16 +122,6 @@ module _ (lost : ℕ → ℕ) (n : ℕ) (u : Tables) (kept : Kept lost u) (most 
     where
       reserved : (b : ℕ) → Credible b u → Reserved lost n u b (rooted n b u)
       reserved b c = record { tables = refl; sound = sound-rooted b c; start = c .start; fresh = c .fresh }
-
-pub record TakesFrom (lost : ℕ → ℕ) (p f k n : ℕ) (t : Tables) : Type 0 where
-  pub sound : Sound lost S.none S.none t
-  pub size : Whole (t .page) n
-  pub most : n ≤ t .va
-  pub few : Few k 127 t
-  pub zombies : length (t .zombies) + length (t .free) ≤ 128
-  pub holes : length (t .zombies) + length (t .free) + length (t .holes) ≤ 511
-  pub root : noHole (smallestHole n (t .holes)) ≡ true → length (t .roots) < 16
-  pub known : Known p f t
 
 pub record TakenRange (lost : ℕ → ℕ) (p f k n a : ℕ) (t : Tables) : Type 0 where
   pub sound : Sound lost (within a n) S.none t

@@ -21,10 +21,10 @@ use Rattle.tables.specs.InsertHole.{from, upto, Apart}
 use Rattle.tables.specs.WellFormed.{range, spans, ranges, ceilingsKept, sound, wellFormed}
 use Rattle.tables.specs.declared.Hole.{Hole}
 use Rattle.tables.specs.declared.Pool.{Pool}
-use Rattle.keeping.specs.Cover.{within, equal, coverFree, coverLive, pagesAt}
+use Rattle.keeping.specs.Cover.{within, equal, coverFree, coverLive, pagesAt, keysAt}
 use Rattle.keeping.specs.Sound.{none, Whole, WholeRange, Sound, Ceilings, Kept}
 use Rattle.keeping.proofs.Cover.{within-in}
-use Rattle.keeping.proofs.Counting.{keysAt, once-differ, differ-once, coverAt, parted-once, ordered, cover-le, cover-past}
+use Rattle.keeping.proofs.Counting.{once-differ, differ-once, coverAt, parted-once, ordered, cover-le, cover-past}
 use Rattle.keeping.proofs.Inside.{inside-covered}
 use Rattle.keeping.proofs.PageStarts.{WholeSpan, count-pages, whole-pages, unaligned-none}
 use Rattle.keeping.proofs.Ranges.{OfEach, spansInOrder, cover-inOrder, all-inOrder, tablesAt, rootsAt, cover-ranges, each-of}

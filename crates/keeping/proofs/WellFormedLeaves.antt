@@ -21,9 +21,9 @@ use Rattle.tables.specs.InsertHole.{from, upto, Apart}
 use Rattle.tables.specs.WellFormed.{spans, ranges, holesIn, ceilingsKept, sound, wellFormed}
 use Rattle.tables.specs.declared.Hole.{Hole}
 use Rattle.tables.proofs.Packs.{tables-pool}
-use Rattle.keeping.specs.Cover.{within, equal, pagesAt}
+use Rattle.keeping.specs.Cover.{within, equal, pagesAt, keysAt}
 use Rattle.keeping.specs.Sound.{none, Sound, Ceilings, Kept}
-use Rattle.keeping.proofs.Counting.{keysAt, once-differ, counts-same, once-parted, ordered, all-cover}
+use Rattle.keeping.proofs.Counting.{once-differ, counts-same, once-parted, ordered, all-cover}
 use Rattle.keeping.proofs.Holes.{apart-rises}
 use Rattle.keeping.proofs.Inside.{covered-inside}
 use Rattle.keeping.proofs.PageStarts.{WholeSpan, pageStarts, count-pages, whole-pages, rise-pages, unaligned-none}

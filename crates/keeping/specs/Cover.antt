@@ -4,7 +4,6 @@ use mathlib.Core.List.{List}
 use Prim.Native.Nat.{ℕ, _+_, _-_, min}
 use Rattle.lists.specs.Walks.{sum}
 use Rattle.words.specs.declared.Address.{Address}
-use Rattle.tables.specs.InsertHole.{from}
 use Rattle.tables.specs.declared.FreeRegion.{FreeRegion}
 use Rattle.tables.specs.declared.LiveBuffer.{LiveBuffer}
 use Rattle.tables.specs.declared.Hole.{Hole}
@@ -37,6 +36,10 @@ coverZombies l x = sum (λ z. within (z .start .0) (z .size) x) l
 
 abbrev pub coverRoots : ℕ → List Address → ℕ → ℕ
 coverRoots va l x = sum (λ a. within (a .0) va x) l
+
+-- how often a key is `x`: no key is twice just where none counts twice
+abbrev pub keysAt : {A : Type 0} → (A → ℕ) → List A → ℕ → ℕ
+keysAt key l x = sum (λ a. equal (key a) x) l
 
 -- how many active pages start at `x`
 abbrev pub pagesAt : List Page → ℕ → ℕ

@@ -2,3 +2,8 @@ pub mod Cover
 pub mod Sound
 pub mod Counts
 pub mod Holds
+pub mod MakeRoom
+pub mod Pull
+pub mod Move
+pub mod Malloc
+pub mod Open

@@ -11,8 +11,7 @@ use Rattle.tables.specs.Malloc.{orRoom, handOver}
 use Rattle.tables.specs.declared.FreeRegion.{FreeRegion}
 use Rattle.tables.specs.declared.Pool.{Pool}
 use Rattle.tables.specs.declared.Outcome.{Outcome}
-use Rattle.keeping.proofs.Malloc.{Asked}
-use Rattle.keeping.proofs.HandOver.{Handing}
+use Rattle.keeping.specs.Malloc.{Asked, Handing}
 use Rattle.driving.specs.Pools.{PoolRan}
 use Rattle.driving.specs.declared.Stepped.{Stepped}
 

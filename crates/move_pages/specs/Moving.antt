@@ -11,7 +11,7 @@ use Rattle.tables.specs.declared.Outcome.{Outcome}
 use Rattle.tables.specs.declared.Zombie.{Zombie}
 use Rattle.tables.specs.declared.Zombies.{Zombies}
 use Rattle.tables.specs.declared.Pages.{Pages}
-use Rattle.keeping.proofs.Move.{Moving, Movable}
+use Rattle.keeping.specs.Move.{Movable, Moving}
 use Rattle.driving.specs.Ran.{Ran, Point, point}
 use Rattle.driving.specs.Endings.{ending}
 use Rattle.driving.specs.declared.Ended.the-variants.{On, Ends}

@@ -12,8 +12,9 @@ use Rattle.tables.specs.declared.Page.{Page}
 use Rattle.driving.specs.Ran.{Point, Ran}
 use Rattle.driving.proofs.Holds.{holds-ran}
 use Rattle.keeping.specs.Holds.{Holds}
+use Rattle.keeping.specs.MakeRoom.{PagesTo}
 use Rattle.keeping.proofs.Holds.{holds-then, holds-must, holds-change, drives-map}
-use Rattle.keeping.proofs.NewPages.{PagesTo, checks-created, maps-page}
+use Rattle.keeping.proofs.NewPages.{checks-created, maps-page}
 use Rattle.new_pages.proofs.Turns.{one-more}
 
 -- one page fewer to make, where a new handle was mapped

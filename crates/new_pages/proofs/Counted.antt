@@ -16,9 +16,9 @@ use Rattle.tables.specs.Values.{Tables}
 use Rattle.tables.specs.NewPages.{Room, at, newPages}
 use Rattle.tables.specs.declared.Page.{Page}
 use Rattle.keeping.specs.Cover.{equal}
+use Rattle.keeping.specs.MakeRoom.{PagesTo}
 use Rattle.keeping.proofs.Cover.{within-in, within-out, equal-same}
 use Rattle.keeping.proofs.Sounds.{sound-once}
-use Rattle.keeping.proofs.NewPages.{PagesTo}
 
 module _ {A : Type 0} where
   none-there : (l : List A) → ((x : A) → Member x l → ⊥) → length l ≡ 0

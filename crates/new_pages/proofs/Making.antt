@@ -14,7 +14,7 @@ use Rattle.tables.specs.declared.Pages.{Pages}
 use Rattle.tables.specs.declared.Holes.{Holes}
 use Rattle.tables.specs.declared.Outcome.{Outcome}
 use Rattle.driving.specs.Ran.{Point, point, Ran}
-use Rattle.keeping.proofs.NewPages.{PagesTo}
+use Rattle.keeping.specs.MakeRoom.{PagesTo}
 use Rattle.keeping.proofs.Sounds.{sound-range}
 use Rattle.new_pages.specs.Promises.{roomOf, paging, stoppedAt, Ready, MakesPages}
 use Rattle.new_pages.specs.declared.Room.{Room}

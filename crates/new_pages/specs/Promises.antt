@@ -17,7 +17,7 @@ use Rattle.tables.specs.declared.Outcome.{Outcome}
 use Rattle.driving.specs.Ran.{Ran, point}
 use Rattle.driving.specs.Endings.{ending}
 use Rattle.driving.specs.declared.Ended.the-variants.{Ends}
-use Rattle.keeping.proofs.NewPages.{PagesTo}
+use Rattle.keeping.specs.MakeRoom.{PagesTo}
 use Rattle.new_pages.specs.declared.Room.{Room}
 use Rattle.new_pages.specs.declared.Paged.{Paged}
 use Rattle.new_pages.specs.declared.PagesMade.{PagesMade}

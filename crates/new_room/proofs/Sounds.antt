@@ -9,13 +9,13 @@ use Rattle.tables.specs.InsertFree.{bytes}
 use Rattle.tables.specs.TakeRange.{takeRange}
 use Rattle.tables.specs.NewPages.{makePages}
 use Rattle.keeping.specs.Sound.{Whole, Kept}
+use Rattle.keeping.specs.MakeRoom.{TakesFrom, PagesTo, Made, Measured}
 use Rattle.keeping.proofs.Bounds.{free-sizes}
 use Rattle.keeping.proofs.Counts.{few-ceilings}
 use Rattle.keeping.proofs.Cover.{within-none}
-use Rattle.keeping.proofs.TakeRange.{TakesFrom, TakenRange, takes-range}
-use Rattle.keeping.proofs.NewPages.{PagesTo, makes-missing}
+use Rattle.keeping.proofs.TakeRange.{TakenRange, takes-range}
+use Rattle.keeping.proofs.NewPages.{makes-missing}
 use Rattle.keeping.proofs.MakeRoom.{aligned-missing, taken, taken-begins, taken-measured}
-use Rattle.keeping.proofs.Fill.{Made, Measured}
 use Rattle.driving.specs.Ran.{Ran, Point}
 use Rattle.driving.proofs.Holds.{holds-ran}
 

@@ -11,9 +11,7 @@ use Rattle.tables.specs.MakeRoom.{fill, makeRoom}
 use Rattle.tables.specs.declared.FreeRegion.{FreeRegion}
 use Rattle.tables.specs.declared.Pool.{Pool}
 use Rattle.tables.specs.declared.Outcome.{Outcome}
-use Rattle.keeping.proofs.TakeRange.{TakesFrom}
-use Rattle.keeping.proofs.Fill as Fill
-use Rattle.keeping.proofs.Fill.{Measured}
+use Rattle.keeping.specs.MakeRoom.{TakesFrom, Made, Measured}
 use Rattle.driving.specs.Ran.{Ran, Point, point}
 use Rattle.driving.specs.declared.Ended.the-variants.{On, Ends}
 use Rattle.new_pages.specs.Promises.{roomOf}
@@ -36,7 +34,7 @@ pub record Roomable (n : ℕ) (p : Pool) : Type 0 where
 
 -- the missing pages of the room are made, `f` bytes were free before
 abbrev pub PagesMade : (ℕ → ℕ) → ℕ → Room → Pool → Type 0
-PagesMade lost f o p = Fill.Made lost (p .page) f (roomOf o) (tablesOf p) × Measured (p .page) f (roomOf o)
+PagesMade lost f o p = Made lost (p .page) f (roomOf o) (tablesOf p) × Measured (p .page) f (roomOf o)
 
 -- A range is taken and its missing pages are made: what the rest of make room does from there, the whole does, and where that ended it ended.
 pub record TakesRoom (n s : ℕ) (xs : List ℕ) (p : Pool) (k : ℕ) (l : List ℕ) (r : RoomTaken) (m : List ℕ) : Type 0 where

@@ -16,8 +16,10 @@ use Rattle.tables.specs.declared.Outcome.{Outcome}
 use Rattle.tables.specs.declared.Outcome.the-variants.{Opened}
 use Rattle.tables.proofs.Packs.{tables-pool}
 use Rattle.keeping.specs.Sound.{none}
-use Rattle.keeping.proofs.TakeRange.{rooted, Reserved, reserves-root, TakesFrom}
-use Rattle.keeping.proofs.Open.{Configured, empty-kept, takes-from}
+use Rattle.keeping.specs.MakeRoom.{TakesFrom}
+use Rattle.keeping.specs.Open.{Configured}
+use Rattle.keeping.proofs.TakeRange.{rooted, Reserved, reserves-root}
+use Rattle.keeping.proofs.Open.{empty-kept, takes-from}
 use Rattle.driving.specs.Ran.{Ran, Drove, point}
 use Rattle.driving.specs.Endings.{ending, endingWith, steppedAt}
 use Rattle.driving.specs.Pools.{PoolRan, CallRan}

@@ -4,7 +4,7 @@ ghost use Prim.Native.Nat.{_≤_};
 ghost use lib.ListN.{length};
 ghost use Rattle.tables.specs.Values.{opened, poolOf, noTables, closedPool};
 ghost use Rattle.tables.specs.Open.{openSteps};
-ghost use Rattle.keeping.proofs.Open.{Configured};
+ghost use Rattle.keeping.specs.Open.{Configured};
 ghost use Rattle.driving.specs.Pools.{CallRan};
 use driving::Ended;
 use driving::Stepped;

@@ -10,7 +10,7 @@ use Rattle.tables.specs.declared.FreeRegion.{FreeRegion}
 use Rattle.tables.specs.declared.FreeRegions.{FreeRegions}
 use Rattle.tables.specs.declared.Zombie.{Zombie}
 use Rattle.tables.specs.declared.Zombies.{Zombies}
-use Rattle.keeping.proofs.Pull.{Pulling}
+use Rattle.keeping.specs.Pull.{Pulling}
 use Rattle.regions.specs.Pulling.{besides}
 use Rattle.regions.specs.declared.Made.{Made}
 use Rattle.driving.specs.Ran.{Ran, point}

@@ -20,12 +20,14 @@ use Rattle.tables.specs.declared.Pool.{Pool}
 use Rattle.tables.specs.declared.Outcome.{Outcome}
 use Rattle.tables.proofs.Packs.{free-count}
 use Rattle.keeping.specs.Sound.{none}
+use Rattle.keeping.specs.Pull.{filling}
+use Rattle.keeping.specs.Move.{Movable}
 use Rattle.keeping.proofs.Sounds.{sound-range}
 use Rattle.keeping.proofs.Pull.{pulls}
 use Rattle.keeping.proofs.Pull
-use Rattle.keeping.proofs.Move.{Movable, moves-pages}
+use Rattle.keeping.proofs.Move.{moves-pages}
 use Rattle.keeping.proofs.InsertFree.{Inserting}
-use Rattle.keeping.proofs.PullIn.{filling, spare-most, pulled-spare, pulled-fills, moved-inserting}
+use Rattle.keeping.proofs.PullIn.{spare-most, pulled-spare, pulled-fills, moved-inserting}
 use Rattle.keeping.proofs.Bounds.{inserting-bounds, moved-most}
 use Rattle.driving.specs.Ran.{Ran, point, Drove}
 use Rattle.driving.specs.Endings.{ending, endingWith}
@@ -69,7 +71,7 @@ module _ {o : Room} {newly : Made} {lacks : ℕ} {p : Pool} (k : Fillable o newl
   to = o .start .0 + o .missing
 
   abbrev hand : ℕ → ℕ
-  hand = filling (k .lost) (k .rest) (p .page) lacks (k .spans) (k .keep) others (roomOf o)
+  hand = filling (k .rest) lacks (roomOf o)
 
   -- the range is of a root
   pub ends-below : to + lacks ≤ 2 ^ 63

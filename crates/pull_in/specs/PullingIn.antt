@@ -6,8 +6,7 @@ use Rattle.tables.specs.Kept.{KeptPool}
 use Rattle.tables.specs.declared.FreeRegion.{FreeRegion}
 use Rattle.tables.specs.declared.Pool.{Pool}
 use Rattle.keeping.specs.Sound.{none, WholeRange}
-use Rattle.keeping.proofs.Pull.{Pulling}
-use Rattle.keeping.proofs.PullIn.{filling, order, Spare}
+use Rattle.keeping.specs.Pull.{Pulling, filling, order, Spare}
 use Rattle.regions.specs.Pulling.{besides}
 use Rattle.regions.specs.declared.Made.{Made}
 use Rattle.new_pages.specs.Promises.{roomOf}
@@ -22,6 +21,5 @@ pub record Fillable (o : Room) (newly : Made) (lacks : ℕ) (p : Pool) : Type 0 
   pub spans : ℕ
   pub keep : List FreeRegion
   pub range : WholeRange (p .page) (o .start .0 + o .missing) lacks
-  pub spare : Spare lost rest (p .page) lacks spans keep (besides newly (freeOf (p .free))) (roomOf o)
-  pub due : Pulling lost (filling lost rest (p .page) lacks spans keep (besides newly (freeOf (p .free))) (roomOf o)) none (p .page) lacks spans keep
-      (order lost rest (p .page) lacks spans keep (besides newly (freeOf (p .free))) (roomOf o)) (tablesOf p)
+  pub spare : Spare lacks spans (besides newly (freeOf (p .free)))
+  pub due : Pulling lost (filling rest lacks (roomOf o)) none (p .page) lacks spans keep (order (besides newly (freeOf (p .free))) (roomOf o)) (tablesOf p)
