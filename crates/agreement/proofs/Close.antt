@@ -7,8 +7,7 @@ use Prim.Native.Nat.{ℕ, _+_, _≤_, _<_}
 use native.Mathlib.Omega.{arith}
 use borrow.Author.Tests.{eq-eqb, ne-eqb}
 use lib.Dec.{eqb}
-use Rattle.lists.specs.Tests.{All, any, filter}
-use Rattle.lists.proofs.Every.{Pairs}
+use Rattle.lists.specs.Tests.{All, Pairs, any, filter}
 use Rattle.lists.proofs.Pairs.{pairs-implies}
 use Rattle.words.specs.declared.Address.{Address}
 use Rattle.words.specs.declared.Word.the-variants.{Unmap, Release, Sync, Giveback}

@@ -9,10 +9,10 @@ use lib.Dec.{leb}
 use native.Mathlib.Omega.{arith}
 use native.Mathlib.Nat.{mod-eq-of-lt}
 use borrow.Author.Tests.{eq-eqb}
-use Rattle.lists.specs.Tests.{All, every}
+use Rattle.lists.specs.Tests.{All, Pairs, every}
 use Rattle.lists.specs.Order.{sorted}
 use Rattle.lists.proofs.Tests.{both, all-append, cases-lt}
-use Rattle.lists.proofs.Every.{Pairs, and-true, every-all, all-every, pairs-pairwise}
+use Rattle.lists.proofs.Every.{and-true, every-all, all-every, pairs-pairwise}
 use Rattle.lists.proofs.Tests.{all-implies, all-both, all-first, all-second}
 use Rattle.lists.proofs.Pairs.{pairs-implies}
 use Rattle.lists.proofs.Order.{all-sorted, sum-sorted, sorted-ascends}

@@ -7,9 +7,9 @@ use Prim.Native.Nat.{ℕ, _+_, _-_, _≤_, _<_, _^_}
 use native.Mathlib.Omega.{arith}
 use borrow.Author.Tests.{leb-true, le-leb, eqb-false, ne-eqb, not-true}
 use lib.Dec.{leb, eqb}
-use Rattle.lists.specs.Tests.{All, pairwise}
+use Rattle.lists.specs.Tests.{All, Pairs, pairwise}
 use Rattle.lists.proofs.Tests.{both}
-use Rattle.lists.proofs.Every.{Pairs, and-true, every-all}
+use Rattle.lists.proofs.Every.{and-true, every-all}
 use Rattle.lists.proofs.Tests.{all-implies}
 use Rattle.words.specs.declared.Address.{Address}
 use Rattle.tables.specs.TakeRange.{apart}

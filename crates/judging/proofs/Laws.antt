@@ -9,9 +9,9 @@ use native.Mathlib.Omega.{arith}
 use native.Mathlib.Nat.{div-zero, div-mul-le-self}
 use borrow.Author.Tests.{eqb-true, leb-true, ltb-true, eq-eqb, ne-eqb, le-leb, lt-ltb}
 use lib.Dec.{ltb, leb, eqb}
-use Rattle.lists.specs.Tests.{All, Member, every, filter, distinct}
+use Rattle.lists.specs.Tests.{All, Pairs, Member, every, filter, distinct}
 use Rattle.lists.proofs.Tests.{cases-eq, both, either, all-implies, all-filter}
-use Rattle.lists.proofs.Every.{Pairs, and-true}
+use Rattle.lists.proofs.Every.{and-true}
 use Rattle.judging.specs.Ranges.{inside, clear, pagesFrom, pages}
 use Rattle.judging.specs.Rules.{Page, isMapped}
 use Rattle.judging.specs.Meaning.{there}

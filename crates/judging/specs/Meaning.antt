@@ -5,8 +5,7 @@ use mathlib.Core.List.{List, [], _∷_, map}
 use mathlib.Core.Option.{Option, none, some}
 use Prim.Native.Nat.{ℕ, _+_, _%_, _≤_, _<_}
 use lib.Dec.{eqb}
-use Rattle.lists.specs.Tests.{All, Member, filter, distinct}
-use Rattle.lists.proofs.Every.{Pairs}
+use Rattle.lists.specs.Tests.{All, Pairs, Member, filter, distinct}
 use Rattle.words.specs.declared.Word.{Word}
 use Rattle.words.specs.declared.Word.the-variants.{
   Reserve,

@@ -8,11 +8,10 @@ use Prim.Native.Nat.{ℕ, _+_, _≤_, _<_, min, max}
 use native.Mathlib.Omega.{arith}
 use borrow.Author.Tests.{eqb-false}
 use lib.Dec.{eqb}
-use Rattle.lists.specs.Tests.{All, any, filter}
+use Rattle.lists.specs.Tests.{All, Pairs, any, filter}
 use Rattle.lists.specs.Order.{Ascends, Rises}
 use Rattle.lists.specs.Walks.{sum}
 use Rattle.lists.proofs.Tests.{any-none, cases-lt, cases-eq, all-implies}
-use Rattle.lists.proofs.Every.{Pairs}
 use Rattle.lists.proofs.Pairs.{pairs-implies, pairs-both, pairs-all, ascends-pairs, rises-pairs}
 use Rattle.lists.proofs.Walks.{sum-filter, sum-none}
 use Rattle.lists.proofs.Filters.{all-passed}

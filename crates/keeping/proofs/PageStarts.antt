@@ -6,10 +6,9 @@ use Prim.Native.Nat.{ℕ, zero, suc, _+_, _*_, _/_, _%_, _≤_, _<_}
 use native.Mathlib.Omega.{arith}
 use native.Mathlib.Nat.{zero-mul, suc-mul, add-mul, mod-self}
 use lib.ListN.{length, length-append}
-use Rattle.lists.specs.Tests.{All}
+use Rattle.lists.specs.Tests.{All, Pairs}
 use Rattle.lists.specs.Walks.{sum, joined}
 use Rattle.lists.proofs.Tests.{all-implies}
-use Rattle.lists.proofs.Every.{Pairs}
 use Rattle.lists.proofs.Walks.{sum-joined, sum-equal, sum-none}
 use Rattle.lists.proofs.Pairs.{all-joined, pairs-joined}
 use Rattle.tables.specs.Pull.{starts}

@@ -9,10 +9,9 @@ use native.Mathlib.Omega.{arith}
 use borrow.Author.Tests.{leb-true, ne-eqb}
 use lib.Dec.{leb, eqb}
 use lib.ListN.{length, take, length-take}
-use Rattle.lists.specs.Tests.{All}
+use Rattle.lists.specs.Tests.{All, Pairs}
 use Rattle.lists.specs.Order.{sorted, Ascends, Rises}
 use Rattle.lists.proofs.Tests.{both, cases-lt, cases-eq, all-implies, all-both}
-use Rattle.lists.proofs.Every.{Pairs}
 use Rattle.lists.proofs.Maps.{all-unmap, sum-map}
 use Rattle.lists.proofs.Pairs.{pairs-implies, pairs-both, pairs-all, pairs-unmap, ascends-pairs, pairs-rises}
 use Rattle.lists.proofs.Order.{length-sorted, sorted-ascends}

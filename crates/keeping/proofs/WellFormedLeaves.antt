@@ -9,10 +9,10 @@ use native.Mathlib.Omega.{arith}
 use borrow.Author.Tests.{le-leb}
 use lib.Dec.{leb}
 use lib.ListN.{length}
-use Rattle.lists.specs.Tests.{All}
+use Rattle.lists.specs.Tests.{All, Pairs}
 use Rattle.lists.specs.Order.{sorted, Rises}
 use Rattle.lists.proofs.Tests.{cases-eq, all-implies}
-use Rattle.lists.proofs.Every.{Pairs, and-true}
+use Rattle.lists.proofs.Every.{and-true}
 use Rattle.lists.proofs.Pairs.{rises-above, pairs-implies, pairs-map, rises-pairs}
 use Rattle.lists.proofs.Order.{sorted-ascends, sorted-same, rises-ascends}
 use Rattle.lists.proofs.Maps.{sum-map}

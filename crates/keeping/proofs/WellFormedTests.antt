@@ -7,10 +7,10 @@ use Prim.Native.Nat.{ℕ, _+_, _-_, _%_, _≤_, _<_, _^_}
 use native.Mathlib.Omega.{arith}
 use borrow.Author.Tests.{ltb-true, leb-true, eqb-true, eqb-false, not-true, lt-ltb, le-leb, lt-leb, eq-eqb, ne-eqb}
 use lib.Dec.{leb, eqb, ltb}
-use Rattle.lists.specs.Tests.{All, every}
+use Rattle.lists.specs.Tests.{All, Pairs, every}
 use Rattle.lists.specs.Order.{sorted}
 use Rattle.lists.proofs.Tests.{both, either, cases-lt}
-use Rattle.lists.proofs.Every.{Pairs, and-true, every-all, all-every, pairwise-pairs, pairs-pairwise}
+use Rattle.lists.proofs.Every.{and-true, every-all, all-every, pairwise-pairs, pairs-pairwise}
 use Rattle.lists.proofs.Pairs.{same-is, is-same}
 use Rattle.words.specs.declared.Address.{Address}
 use Rattle.tables.specs.Values.{Tables}

@@ -3,16 +3,11 @@
 use mathlib.Core.Path.{_≡_, refl}
 use mathlib.Core.Bool.{Bool, true, _&&_}
 use mathlib.Core.List.{List, [], _∷_}
-use Rattle.lists.specs.Tests.{All, every, pairwise}
+use Rattle.lists.specs.Tests.{All, Pairs, every, pairwise}
 use Rattle.lists.proofs.Tests.{both}
 
 pub and-true : (a b : Bool) → a ≡ true → b ≡ true → (a && b) ≡ true
 and-true a b p q = rw (p, q)
-
--- every two elements stand in `R`, the earlier one first
-abbrev pub Pairs {ℓ} : {A : Type ℓ} → (A → A → Type 0) → List A → Type 0
-Pairs R [] = Unit {0}
-Pairs R (x ∷ l) = All (R x) l × Pairs R l
 
 module _ {ℓ} {A : Type ℓ} where
   pub every-all : (p : A → Bool) (P : A → Type 0) → ((x : A) → p x ≡ true → P x) → (l : List A) → every p l ≡ true → All P l

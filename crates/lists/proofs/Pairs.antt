@@ -7,11 +7,11 @@ use Prim.Native.Nat.{ℕ, _≤_, _<_}
 use native.Mathlib.Omega.{arith}
 use borrow.Author.Tests.{eqb-true, eq-eqb}
 use lib.Dec.{eqb}
-use Rattle.lists.specs.Tests.{All, same}
+use Rattle.lists.specs.Tests.{All, Pairs, same}
 use Rattle.lists.specs.Order.{Ascends, Rises}
 use Rattle.lists.specs.Walks.{joined}
 use Rattle.lists.proofs.Tests.{both, all-implies, all-both, all-append}
-use Rattle.lists.proofs.Every.{Pairs, and-true}
+use Rattle.lists.proofs.Every.{and-true}
 use Rattle.lists.proofs.Maps.{all-map, all-unmap}
 
 -- the test for the same numbers in the same order

@@ -13,6 +13,11 @@ module _ {ℓ} {A : Type ℓ} where
   All P [] = Unit {0}
   All P (x ∷ l) = P x × All P l
 
+  -- every two elements stand in `R`, the earlier one first
+  abbrev pub Pairs : (A → A → Type 0) → List A → Type 0
+  Pairs R [] = Unit {0}
+  Pairs R (x ∷ l) = All (R x) l × Pairs R l
+
   -- every element passes the test
   abbrev pub every : (A → Bool) → List A → Bool
   every p [] = true
