@@ -1,12 +1,12 @@
 -- What the steps of a call leave is what its rule hands back. Assumes nothing.
 use mathlib.Core.Path.{_≡_, refl, ap, sym, _∙_}
-use mathlib.Core.Bool.{Bool, true, false, cond, _||_}
+use mathlib.Core.Bool.{Bool, true, false, cond}
 use mathlib.Core.List.{List}
 use Prim.Native.Nat.{ℕ, _-_, _≤_, _/_}
 use native.Mathlib.Omega.{arith}
 use lib.ListN.{length}
 use Rattle.words.proofs.Log.{written-none}
-use Rattle.tables.specs.Values.{Tables, opened, stopped, tablesOf, poolOf}
+use Rattle.tables.specs.Values.{Tables, closed, tablesOf, poolOf}
 use Rattle.tables.specs.Kept.{KeptPool}
 use Rattle.tables.specs.Steps.{Step}
 use Rattle.tables.specs.Outcomes.{is}
@@ -18,12 +18,14 @@ use Rattle.driving.specs.Pools.{CallRan}
 use Rattle.driving.specs.declared.Stepped.{Stepped}
 use Rattle.driving.proofs.Ran.{log-is}
 use Rattle.calls.specs.Replies.{Replies, called}
-use Rattle.calls.specs.Leaving.{leaving}
+use Rattle.calls.specs.Leaving.{stateAfter, leaving, leavingShort}
 use Rattle.calls.specs.declared.Pool.{Pool}
 use Rattle.calls.specs.declared.Called.{Called}
+use Rattle.calls.proofs.States.{ran-out, is-left}
 
--- a pool of kept tables, with another state
-pub with-state : (s : ℕ) (p : tables.Pool) → KeptPool p →
+-- a pool with another state
+abbrev withState : ℕ → tables.Pool → tables.Pool
+withState s p =
     record {
       state = s;
       page = p .page;
@@ -35,36 +37,29 @@ pub with-state : (s : ℕ) (p : tables.Pool) → KeptPool p →
       zombies = p .zombies;
       pages = p .pages;
       roots = p .roots;
-    } ≡ poolOf s (tablesOf p)
+    }
+
+-- its tables are kept
+pub with-state : (s : ℕ) (p : tables.Pool) → KeptPool p → withState s p ≡ poolOf s (tablesOf p)
 unfolding poolOf
-with-state s p k =
-    ap (λ q. record {
-      state = s;
-      page = q .page;
-      va = q .va;
-      counter = q .counter;
-      free = q .free;
-      live = q .live;
-      holes = q .holes;
-      zombies = q .zombies;
-      pages = q .pages;
-      roots = q .roots;
-    }) (pool-whole p k)
+with-state s p k = ap (withState s) (pool-whole p k)
 
 module _ (p : Pool) (s : Stepped) where
   -- 17
   pub left-short : is 17 (s .outcome) ≡ true → leaving p s ≡ record { pool = p; outcome = s .outcome; records = s .made; taken = s .made - 1 }
   left-short e = rw e
 
-  pub left-by : is 17 (s .outcome) ≡ false →
-      leaving p s
-      ≡ record {
-        pool = record { value = poolOf (cond (is 14 (s .outcome) || is 15 (s .outcome)) stopped opened) (tablesOf (s .pool)) };
-        outcome = s .outcome;
-        records = s .made;
-        taken = s .made;
-      }
-  left-by e = rw e
+  pub left-ran-out : stateAfter (s .outcome) ≡ closed → leaving p s ≡ leavingShort p (s .made)
+  left-ran-out e = rw (ran-out (s .outcome) e)
+
+  -- any other outcome leaves the tables of the steps, with its state
+  pub left-by : (n : ℕ) → KeptPool (s .pool) → n ≡ stateAfter (s .outcome) → (n ≡ closed → ⊥) →
+      leaving p s ≡ record { pool = record { value = withState n (s .pool) }; outcome = s .outcome; records = s .made; taken = s .made }
+  left-by n k e z =
+      let w = is-left (s .outcome) (λ h. z (e ∙ h)) in
+      rw (w .0)
+      (ap (λ q. record { pool = record { value = q }; outcome = s .outcome; records = s .made; taken = s .made })
+      (sym (with-state n (s .pool) k ∙ ap (λ m. poolOf m (tablesOf (s .pool))) (e ∙ w .1))))
 
 taken-none : (b : Bool) → _≡_ {A = ℕ} (cond b 0 0) 0
 taken-none true = refl

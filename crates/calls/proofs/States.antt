@@ -94,6 +94,31 @@ some : (b : Bool) (m n : ℕ) → (m ≡ closed → ⊥) → (n ≡ closed → �
 some true m n p q e = p e
 some false m n p q e = q e
 
+-- the outcome that leaves the pool as at entry
+pub ran-out : (o : Outcome) → stateAfter o ≡ closed → o ≡ AnswersRanOut
+ran-out (Opened a b) e = absurd (omega arith)
+ran-out (Allocated a b) e = absurd (omega arith)
+ran-out (Freed a b) e = absurd (omega arith)
+ran-out (Closed a) e = absurd (omega arith)
+ran-out PoolClosed e = absurd (omega arith)
+ran-out PoolStopped e = absurd (omega arith)
+ran-out NotWellFormed e = absurd (omega arith)
+ran-out ShortLog e = absurd (omega arith)
+ran-out IdsSpent e = absurd (omega arith)
+ran-out (BadSize a) e = absurd (omega arith)
+ran-out SpansFull e = absurd (omega arith)
+ran-out (RequestedExceedsVa a b) e = absurd (omega arith)
+ran-out PagesFull e = absurd (omega arith)
+ran-out ZombiesFull e = absurd (omega arith)
+ran-out RootsFull e = absurd (omega arith)
+ran-out (ReserveFailed a b) e = absurd (omega arith)
+ran-out (OutOfMemory a b) e = absurd (omega arith)
+ran-out (DriverFailed a) e = absurd (omega arith)
+ran-out Incredible e = absurd (omega arith)
+ran-out (InvalidPointer a) e = absurd (omega arith)
+ran-out AnswersRanOut e = refl
+ran-out BadConfiguration e = absurd (omega arith)
+
 module _ (o : Outcome) where
   pub is-short : stateAfter o ≡ closed → is 17 o ≡ true
   is-short e = by-test (is 17 o) _ (some (is 14 o || is 15 o) stopped opened (λ z. omega arith) (λ z. omega arith)) e

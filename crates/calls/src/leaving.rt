@@ -11,7 +11,7 @@ ghost use Rattle.tables.specs.Kept.{KeptPool};
 ghost use Rattle.calls.specs.Leaving.{stateAfter, openedAfter, Refuses, leaving, leavingOpened, leavingShort, leavingClosed};
 
 // The state that an outcome leaves: 2 for 14 and 15, 1 else; 0 stands for the pool as at entry, which is 17's.
-fn state_after(outcome: Outcome) -> u64
+pub fn state_after(outcome: Outcome) -> u64
     ensures { λ r. ⌜ r ≡ stateAfter outcome ⌝ }
 {
     match outcome {

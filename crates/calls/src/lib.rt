@@ -97,19 +97,36 @@ impl Pool {
         unready::malloc(self, bytes, stream, answers, log)
     }
 
-    // The buffer's range is inserted as free, on its stream.
+    // The buffer's range is inserted as free, on its stream. The call changes its own copy of the pool, table by table.
     pub fn free(self, address: Address, answers: &[u64], log: &mut [u64]) -> Called
         ensures { λ r. ⌜ Frees self address (now (answers .entry)) (now (log .entry)) r (now (log .exit)) ⌝ }
     {
-        if is_open(self.value.state, self.value.counter, log.len() / 4) {
-            if stands(self.value) {
-                if is_sound(self.value) {
-                    let choice = find_buffer(self.value.live, address);
+        let mut q = self.value;
+        if is_open(q.state, q.counter, log.len() / 4) {
+            if stands(q) {
+                if is_sound(q) {
+                    let choice = find_buffer(q.live, address);
                     let Choice::At(at) = choice else {
                         return leaving::refuse(self, Ended::Ends(Outcome::InvalidPointer(address)));
                     };
-                    let stepped = free_steps(self.value, at, answers, log);
-                    return leaving::leave(self, stepped);
+                    let freed = free_steps(q.live, q.free, q.counter, at, answers, log);
+                    let outcome = freed.outcome;
+                    let state = leaving::state_after(outcome);
+                    if state == 0 {
+                        return leaving::leave_short(self, freed.made);
+                    }
+                    let live = freed.live;
+                    let free = freed.free;
+                    q.live = live;
+                    q.free = free;
+                    q.counter = freed.counter;
+                    q.state = state;
+                    return Called {
+                        pool: Pool { value: q },
+                        outcome,
+                        records: freed.made,
+                        taken: freed.made,
+                    };
                 }
             }
         }

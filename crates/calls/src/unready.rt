@@ -9,6 +9,7 @@ use crate::leaving::refuse;
 use crate::refusing::size_refused;
 use closing::close_steps;
 use driving::Ended;
+use driving::Stepped;
 use entries::buffers::find_buffer;
 use free_steps::free_steps;
 use malloc_steps::malloc_steps;
@@ -51,8 +52,22 @@ pub fn free(pool: Pool, address: Address, answers: &[u64], log: &mut [u64]) -> C
     let Choice::At(at) = choice else {
         return refuse(pool, Ended::Ends(Outcome::InvalidPointer(address)));
     };
-    let stepped = free_steps(read, at, answers, log);
-    leave(pool, stepped)
+    let freed = free_steps(read.live, read.free, read.counter, at, answers, log);
+    let live = freed.live;
+    let free = freed.free;
+    let outcome = freed.outcome;
+    let mut left = read;
+    left.live = live;
+    left.free = free;
+    left.counter = freed.counter;
+    leave(
+        pool,
+        Stepped {
+            pool: left,
+            outcome,
+            made: freed.made,
+        },
+    )
 }
 
 // Refused, or close over the pool put in order: a stopped pool comes here too.

@@ -1,2 +1,3 @@
 pub mod Sounds
+pub mod Taking
 pub mod Ways

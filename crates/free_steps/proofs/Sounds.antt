@@ -20,65 +20,44 @@ use Rattle.tables.proofs.Packs.{free-count, live-count, live-kept}
 use Rattle.keeping.proofs.FreeCall.{inserting}
 use Rattle.keeping.proofs.Bounds.{inserting-bounds}
 use Rattle.insert_free.specs.Inserting.{Insertable}
-use Rattle.free_steps.specs.Freeing.{Freeable}
+use Rattle.free_steps.specs.Freeing.{Freeable, holding}
 
 -- the buffer in a cell, as its list has it
 pub cell-is : (t : LiveBuffers) (i : ℕ) → i < t .count → getD (liveOf t) i (buffer 0 0 0) ≡ getD (t .cells) i (buffer 0 0 0)
 unfolding liveOf
 cell-is t i h = getD-take (t .count) (t .cells) i (buffer 0 0 0) h
 
--- the pool with other free regions, buffers and counter
-abbrev freeing : Pool → FreeRegions → LiveBuffers → ℕ → Pool
-freeing p f b c =
-    record {
-      state = p .state;
-      page = p .page;
-      va = p .va;
-      counter = c;
-      free = f;
-      live = b;
-      holes = p .holes;
-      zombies = p .zombies;
-      pages = p .pages;
-      roots = p .roots;
-    }
-
-module _ (i : ℕ) (p : Pool) (h : Freeable i p) where
+module _ {i : ℕ} {b : LiveBuffers} {f : FreeRegions} {c : ℕ} (h : Freeable i b f c) where
   abbrev it : LiveBuffer
-  it = getD (liveOf (p .live)) i (buffer 0 0 0)
+  it = getD (liveOf b) i (buffer 0 0 0)
 
-  member : Member it (liveOf (p .live))
-  member = member-at (liveOf (p .live)) i (buffer 0 0 0) (omega (arith, h .placed, live-count (p .live) (h .tables .live)))
+  member : Member it (liveOf b)
+  member = member-at (liveOf b) i (buffer 0 0 0) (omega (arith, h .placed, live-count b (h .tables .live)))
 
-  pub insertable : Insertable (getD (liveOf (p .live)) i (buffer 0 0 0) .start .0) (getD (liveOf (p .live)) i (buffer 0 0 0) .size) (p .counter) (p .free)
+  pub insertable : Insertable (it .start .0) (it .size) c f
   unfolding tablesOf
   insertable =
-      let b = inserting-bounds (inserting it (tablesOf p) (h .kept) member) in
+      let w = inserting-bounds (inserting it (tablesOf (holding b f c (h .around))) (h .kept) member) in
       record {
         free = h .tables .free;
-        room = omega (arith, b .few, free-count (p .free) (h .tables .free));
-        end = b .ends;
-        rangeEnd = b .rangeEnd;
-        sizes = b .sizes;
+        room = omega (arith, w .few, free-count f (h .tables .free));
+        end = w .ends;
+        rangeEnd = w .rangeEnd;
+        sizes = w .sizes;
         counter = h .ids;
       }
 
-  -- what the steps leave of the pool: free regions, a counter, and the other buffers
-  pub kept-after : (f : FreeRegions) (a c : ℕ) (b : LiveBuffers) → KeptFree f → b ≡ packLive (without (λ z. z .start .0) a (liveOf (p .live))) →
-      KeptPool (freeing p f b c)
-  kept-after f a c b k e =
-      record {
-        free = k;
-        live =
-            rw e (live-kept (without (λ z. z .start .0) a (liveOf (p .live)))
-            (omega (
-              arith,
-              length-filter (λ z. not (eqb (z .start .0) a)) (liveOf (p .live)),
-              live-count (p .live) (h .tables .live),
-              h .tables .live .most,
-            )));
-        holes = h .tables .holes;
-        zombies = h .tables .zombies;
-        pages = h .tables .pages;
-        roots = h .tables .roots;
-      }
+-- what the steps leave of a pool: free regions, a counter, and the other buffers
+pub kept-after : (p : Pool) (f : FreeRegions) (a c : ℕ) (b : LiveBuffers) → KeptPool p → KeptFree f →
+    b ≡ packLive (without (λ z. z .start .0) a (liveOf (p .live))) → KeptPool (holding b f c p)
+kept-after p f a c b h k e =
+    record {
+      free = k;
+      live =
+          rw e (live-kept (without (λ z. z .start .0) a (liveOf (p .live)))
+          (omega (arith, length-filter (λ z. not (eqb (z .start .0) a)) (liveOf (p .live)), live-count (p .live) (h .live), h .live .most)));
+      holes = h .holes;
+      zombies = h .zombies;
+      pages = h .pages;
+      roots = h .roots;
+    }

@@ -1,51 +1,80 @@
-// Free, once the buffer is found: its range is inserted as free, on its stream.
+// Free, once the buffer is found: its range is inserted as free, on its stream. The steps hold only the two tables that they change.
+ghost use mathlib.Core.Path.{_≡_};
 ghost use Prim.Native.Nat.{_≤_};
-ghost use lib.ListN.{length, getD};
-ghost use Rattle.tables.specs.Values.{buffer, liveOf};
-ghost use Rattle.tables.specs.Free.{freeSteps};
-ghost use Rattle.driving.specs.Pools.{CallRan};
-ghost use Rattle.free_steps.specs.Freeing.{Freeable};
+ghost use lib.ListN.{length};
+ghost use Rattle.free_steps.specs.Freeing.{Freeable, FreeRan, freedOutcome};
 use driving::Ended;
-use driving::Stepped;
-use entries::buffers::without_buffer;
 use insert_free::insert_free;
+use tables::FreeRegions;
+use tables::LiveBuffer;
+use tables::LiveBuffers;
 use tables::Outcome;
-use tables::Pool;
+use words::Address;
+
+// What a free leaves of the two tables that it changes.
+pub struct Freed {
+    pub live: LiveBuffers,
+    pub free: FreeRegions,
+    pub counter: u64,
+    pub outcome: Outcome,
+    pub made: usize,
+}
+
+// Success gives the buffer's size and stream.
+fn outcome_of(ended: Ended, size: u64, stream: u64) -> Outcome
+    ensures { λ r. ⌜ r ≡ freedOutcome size stream ended ⌝ }
+{
+    match ended {
+        Ended::On => Outcome::Freed(size, stream),
+        Ended::Ends(outcome) => outcome,
+    }
+}
 
 // The live entry is taken out first: where the record fails, the range is in no table.
-pub fn free_steps(pool: Pool, at: usize, answers: &[u64], log: &mut [u64]) -> Stepped
-    requires { ⌜ Freeable at pool × (4 ≤ length (now log)) ⌝ }
-    ensures { λ r. ⌜ CallRan (freeSteps (getD (liveOf (pool .live)) at (buffer 0 0 0))) 1 (now (answers .entry)) pool (now (log .entry)) r (now (log .exit)) ⌝ }
+pub fn free_steps(
+    live: LiveBuffers,
+    free: FreeRegions,
+    counter: u64,
+    at: usize,
+    answers: &[u64],
+    log: &mut [u64],
+) -> Freed
+    requires { ⌜ Freeable at live free counter × (4 ≤ length (now log)) ⌝ }
+    ensures { λ r. ⌜ FreeRan at live free counter (now (answers .entry)) (now (log .entry)) r (now (log .exit)) ⌝ }
 {
-    let live = pool.live;
-    let buffer = live.cells[at];
-    let start = buffer.start;
-    let others = without_buffer(live, start);
+    let mut others = live;
+    let buffer = others.cells[at];
+    let last = others.count - 1;
+    let mut i = at;
+    while i < last {
+        let j = i + 1;
+        let moved = others.cells[j];
+        others.cells[i] = moved;
+        i = j;
+    }
+    others.cells[last] = LiveBuffer {
+        start: Address(0),
+        size: 0,
+        stream: 0,
+    };
+    others.count = last;
     let inserted = insert_free(
-        pool.free,
-        pool.counter,
-        start,
+        free,
+        counter,
+        buffer.start,
         buffer.size,
         buffer.stream,
         answers,
         log,
         0,
     );
-    let free = inserted.free;
+    let regions = inserted.free;
     let ended = inserted.ended;
-    let mut q = pool;
-    q.live = others;
-    q.free = free;
-    q.counter = inserted.counter;
-    let Ended::Ends(outcome) = ended else {
-        return Stepped {
-            pool: q,
-            outcome: Outcome::Freed(buffer.size, buffer.stream),
-            made: inserted.made,
-        };
-    };
-    Stepped {
-        pool: q,
+    let outcome = outcome_of(ended, buffer.size, buffer.stream);
+    Freed {
+        live: others,
+        free: regions,
+        counter: inserted.counter,
         outcome,
         made: inserted.made,
     }

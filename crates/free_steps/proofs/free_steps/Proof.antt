@@ -1,110 +1,116 @@
--- `free_steps::free_steps` meets its contract: it takes the buffer out and inserts its range, as the rule does. Assumes nothing.
-use mathlib.Core.Path.{_≡_, refl, ap, _∙_}
+-- `free_steps::free_steps` meets its contract: it takes the buffer out and inserts its range, as the rule does. The invariant: with the free place taken
+-- out, the cells are those of the entry without the one at `at`. Assumes nothing.
+use mathlib.Core.Path.{_≡_, refl, _∙_}
+use Prim.Native.Nat.{_-_, _≤_, _<_}
 use native.Mathlib.Omega.{arith}
 use borrow.Author.Needs.{needs}
-use lib.ListN.{getD}
-use Rattle.lists.specs.Order.{without}
-use Rattle.tables.specs.Values.{buffer, liveOf, tablesOf, withLive}
-use Rattle.tables.specs.Steps.{on, ends}
-use Rattle.tables.specs.declared.Outcome.the-variants.{Freed}
-use Rattle.tables.specs.declared.LiveBuffer.{LiveBuffer}
-use Rattle.tables.proofs.Packs.{live-pack}
-use Rattle.free_steps.proofs.Sounds.{cell-is, insertable, kept-after}
-use Rattle.free_steps.proofs.Ways.{freed, free-stopped}
+use lib.ListN.{length}
+use Rattle.lists.specs.Places.{removeAt}
+use Rattle.lists.proofs.Tests.{length-mapped}
+use Rattle.lists.proofs.Places.{shift-down}
+use Rattle.tables.specs.Values.{buffer, tablesOf}
+use Rattle.free_steps.proofs.Sounds.{cell-is, insertable}
+use Rattle.free_steps.proofs.Taking.{taken-out}
+use Rattle.free_steps.proofs.Ways.{steps-left}
 use Rattle.free_steps.proofs.free_steps.Statement.{statement}
 use Rattle.free_steps.proofs.free_steps.Tie as tie
 
-abbrev at-entry : tie.After-without-buffer → tie.Start
-at-entry c = c .before .before .before .before .before .before
+abbrev Inv-loop : tie.InvT-loop
+Inv-loop free counter at answers log others₀ buffer last i₀ others i =
+    ((i ≤ last) × (last < 128)) × ((length (others .cells) ≡ 128) × (removeAt i (others .cells) ≡ removeAt at (others₀ .cells)))
 
--- the buffer that is freed
-abbrev it : tie.After-without-buffer → LiveBuffer
-it c = getD (at-entry c .args .pool .live .cells) (at-entry c .args .at) (buffer 0 0 0)
+abbrev μ-loop : tie.MeasureT-loop
+μ-loop free counter at answers log others₀ buffer last i₀ others i = last - i
 
-others-are : (c : tie.After-without-buffer) →
-    liveOf (c .without-buffer .result) ≡ without (λ b. b .start .0) (it c .start .0) (liveOf (at-entry c .args .pool .live))
-others-are c = ap liveOf (c .without-buffer .ensures) ∙ live-pack _
+abbrev at-entry : tie.After-loop Inv-loop μ-loop → tie.Start Inv-loop μ-loop
+at-entry c = c .before .before .before .before .before
 
-mul-buffer : tie.Need-mul-buffer
-mul-buffer c = let h = c .before .before .before .pre .0 in omega (arith, h .placed, h .tables .live .most)
+mul-buffer : tie.Need-mul-buffer Inv-loop μ-loop
+mul-buffer c = let h = c .before .before .pre .0 in omega (arith, h .placed, h .tables .live .most)
 
-element-copy-out-buffer : tie.Need-element-copy-out-buffer
-element-copy-out-buffer c = let h = c .before .before .before .pre .0 in omega (arith, h .placed, h .tables .live .most)
+element-copy-out-buffer : tie.Need-element-copy-out-buffer Inv-loop μ-loop
+element-copy-out-buffer c = let h = c .before .before .pre .0 in omega (arith, h .placed, h .tables .live .most)
 
-without-buffer-requires : tie.Need-without-buffer-requires
-unfolding tablesOf
-without-buffer-requires c κs = let h = c .before .before .before .before .before .pre .0 in (h .tables .live, h .kept .sound .liveRises)
+sub-last : tie.Need-sub-last Inv-loop μ-loop
+sub-last c = let h = c .before .before .before .pre .0 in omega (arith, h .placed)
 
-insert-free-requires : tie.Need-insert-free-requires
+loop-holds : tie.Need-loop-holds Inv-loop μ-loop
+loop-holds c =
+    let h = c .before .before .before .pre .0 in
+    ((omega (arith, h .placed), omega (arith, h .placed, h .tables .live .most)), (search (needs, length-mapped), refl))
+
+add-j : tie.Need-add-j Inv-loop μ-loop
+add-j c = search needs
+
+mul-moved : tie.Need-mul-moved Inv-loop μ-loop
+mul-moved c = search needs
+
+element-copy-out-moved : tie.Need-element-copy-out-moved Inv-loop μ-loop
+element-copy-out-moved c = search needs
+
+mul-moved-2 : tie.Need-mul-moved-2 Inv-loop μ-loop
+mul-moved-2 c = search needs
+
+element-set-from-moved : tie.Need-element-set-from-moved Inv-loop μ-loop
+element-set-from-moved c = search needs
+
+loop-less : tie.Need-loop-less Inv-loop μ-loop
+loop-less c = search needs
+
+loop-again : tie.Need-loop-again Inv-loop μ-loop
+loop-again c =
+    let v = c .before .before .loop in
+    ((search needs, search needs), (search needs, shift-down (v .others .cells) (v .i) (buffer 0 0 0) (omega arith) ∙ v .inv .1 .1))
+
+mul-t17 : tie.Need-mul-t17 Inv-loop μ-loop
+mul-t17 c = search needs
+
+element-set-from-others : tie.Need-element-set-from-others Inv-loop μ-loop
+element-set-from-others c = search needs
+
+insert-free-requires : tie.Need-insert-free-requires Inv-loop μ-loop
 insert-free-requires c κs =
     let s = at-entry (c .before) in
-    (rw (← cell-is (s .args .pool .live) (s .args .at) (s .pre .0 .placed)) (insertable (s .args .at) (s .args .pool) (s .pre .0)), search needs)
+    (rw (← cell-is (s .args .live) (s .args .at) (s .pre .0 .placed)) (insertable (s .pre .0)), search needs)
 
-enum-known-ended : tie.Need-enum-known-ended
-enum-known-ended c = search needs
+outcome-of-requires : tie.Need-outcome-of-requires Inv-loop μ-loop
+outcome-of-requires c κs = search needs
 
-enum-told : tie.Need-enum-told
-enum-told c = search needs
-
-same-length : tie.Need-same-length
+same-length : tie.Need-same-length Inv-loop μ-loop
 same-length c = search needs
 
-returns : tie.Need-returns
+returns : tie.Need-returns Inv-loop μ-loop
 unfolding tablesOf
 returns c =
-    let q = c .before .before .before .before .before in
-    let w = q .before .before in
-    let s = at-entry w in
-    let r = q .insert-free .ensures in
-    record {
-      ending = on (Freed (it w .size) (it w .stream));
-      outcome = refl;
-      walked =
-          record {
-            ran = rw (cell-is (s .args .pool .live) (s .args .at) (s .pre .0 .placed))
-                (freed (it w) (liveOf (w .without-buffer .result)) (others-are w) (q .insert-free .result .ended) (q .insert-free .result .region)
-                (r .ran (withLive (liveOf (w .without-buffer .result)) (tablesOf (s .args .pool)))) (c .enum-told .given .1));
-            kept = kept-after (s .args .at) (s .args .pool) (s .pre .0) _ _ _ _ (r .free) (w .without-buffer .ensures);
-            state = refl;
-            most = r .most;
-          };
-    }
-
-same-length-2 : tie.Need-same-length-2
-same-length-2 c = search needs
-
-returns-2 : tie.Need-returns-2
-unfolding tablesOf
-returns-2 c =
-    let q = c .before .before .before .before .before .before in
-    let w = q .before .before in
-    let s = at-entry w in
-    let r = q .insert-free .ensures in
-    record {
-      ending = ends (c .before .ended .given .0 .0);
-      outcome = refl;
-      walked =
-          record {
-            ran = rw (cell-is (s .args .pool .live) (s .args .at) (s .pre .0 .placed))
-                (free-stopped (it w) (liveOf (w .without-buffer .result)) (others-are w) (q .insert-free .result .ended) (q .insert-free .result .region)
-                (r .ran (withLive (liveOf (w .without-buffer .result)) (tablesOf (s .args .pool)))) _ (c .before .ended .given .1));
-            kept = kept-after (s .args .at) (s .args .pool) (s .pre .0) _ _ _ _ (r .free) (w .without-buffer .ensures);
-            state = refl;
-            most = r .most;
-          };
-    }
+    let f = c .before .before .before .before in
+    let v = f .before .before in
+    let w = v .before .loop in
+    let a = at-entry v .args in
+    let h = at-entry v .pre .0 in
+    let e : w .i ≡ a .live .count - 1 = omega arith in
+    let t = taken-out (a .live) (a .at) (h .tables .live) (h .placed) (w .others .cells) (h .kept .sound .liveRises) (w .inv .1 .0) (rw e at (w .inv .1 .1)) in
+    steps-left h t (f .insert-free .ensures) _ (c .outcome-of .ensures)
 
 pub free-steps-spec : {M : Type 1} → statement M
 free-steps-spec =
     tie.close
     (tie.spec
+    Inv-loop
+    μ-loop
     mul-buffer
     element-copy-out-buffer
-    without-buffer-requires
+    sub-last
+    loop-holds
+    add-j
+    mul-moved
+    element-copy-out-moved
+    mul-moved-2
+    element-set-from-moved
+    loop-less
+    loop-again
+    mul-t17
+    element-set-from-others
     insert-free-requires
-    enum-known-ended
-    enum-told
+    outcome-of-requires
     same-length
-    returns
-    same-length-2
-    returns-2)
+    returns)

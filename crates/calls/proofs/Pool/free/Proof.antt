@@ -9,14 +9,15 @@ use Rattle.tables.specs.Values.{opened, atEntry, poolOf}
 use Rattle.pools.specs.Entering.{Admitted, Stands}
 use Rattle.pools.proofs.Reading.{read-same}
 use Rattle.pools.proofs.Entering.{is-ready}
-use Rattle.calls.proofs.Reading.{stands-read, read-tables}
-use Rattle.calls.proofs.Left.{replies-none, replies-left, long}
-use Rattle.calls.proofs.Freeing.{freeable, free-none, free-some}
+use Rattle.free_steps.specs.Freeing.{steppedIn}
+use Rattle.calls.proofs.Reading.{stands-read}
+use Rattle.calls.proofs.Left.{replies-none, left-ran-out, left-by, long}
+use Rattle.calls.proofs.Freeing.{freeable, kept-left, free-none, free-left}
 use Rattle.calls.proofs.Pool.free.Statement.{statement}
 use Rattle.calls.proofs.Pool.free.Tie as tie
 
 abbrev at-entry : tie.Then2 → tie.Start
-at-entry c = c .before .before .before .before .before .before
+at-entry c = c .before .before .before .before .before .before .before
 
 standing : (c : tie.Then2) → Stands (at-entry c .args .self .value)
 standing c = c .before .stands .ensures (c .if2 .taken)
@@ -73,30 +74,51 @@ free-steps-requires c κs =
     let a = start b .args in
     (freeable (a .self .value) _ (admitted b) _ (read b) _ _ (h .choice .given .1) (d .find-buffer .ensures .1), omega (arith, long (a .log .now) (admitted b .log)))
 
-leave-requires : tie.Need-leave-requires
-leave-requires c κs = c .before .before .free-steps .ensures .walked .kept
+state-after-requires : tie.Need-state-after-requires
+state-after-requires c κs = search needs
+
+leave-short-requires : tie.Need-leave-short-requires
+leave-short-requires c κs = search needs
 
 same-length : tie.Need-same-length
 same-length c = search needs
 
 returns-2 : tie.Need-returns-2
 returns-2 c =
-    let f = c .before .before .before in
+    let v = c .before .before in
+    let f = v .before .before .before in
     let h = f .before .before .before in
     let d = h .before .before in
     let b = d .before in
     let a = start b .args in
-    let w = free-some (a .self .value) _ (admitted b) _ (read b) (a .address .0) _ _ (d .find-buffer .ensures .0) _ (h .choice .given .1) in
-    replies-left (a .self) _ (read-tables (a .self .value) _ _ (read b)) (f .free-steps .ensures) w (c .leave .ensures)
-
-free-requires : tie.Need-free-requires
-free-requires c κs = search needs
+    free-left (a .self .value) _ (admitted b) _ (read b) (a .address .0) _ _ (d .find-buffer .ensures .0) _ (h .choice .given .1) (f .free-steps .ensures)
+    (c .leave-short .ensures
+    ∙ sym (left-ran-out (a .self) (steppedIn (a .self .value) (f .free-steps .result)) (sym (v .state-after .ensures) ∙ c .before .if4 .taken)))
 
 same-length-2 : tie.Need-same-length-2
 same-length-2 c = search needs
 
 returns-3 : tie.Need-returns-3
-returns-3 c = c .before .before .free .ensures
+returns-3 c =
+    let e = c .before .before in
+    let v = e .before in
+    let f = v .before .before .before in
+    let h = f .before .before .before in
+    let d = h .before .before in
+    let b = d .before in
+    let a = start b .args in
+    let k = kept-left (a .self .value) _ (admitted b) _ (read b) (f .free-steps .ensures) in
+    free-left (a .self .value) _ (admitted b) _ (read b) (a .address .0) _ _ (d .find-buffer .ensures .0) _ (h .choice .given .1) (f .free-steps .ensures)
+    (sym (left-by (a .self) (steppedIn (a .self .value) (f .free-steps .result)) _ k (v .state-after .ensures) (e .if4 .left)))
+
+free-requires : tie.Need-free-requires
+free-requires c κs = search needs
+
+same-length-3 : tie.Need-same-length-3
+same-length-3 c = search needs
+
+returns-4 : tie.Need-returns-4
+returns-4 c = c .before .before .free2 .ensures
 
 pub free-spec : {M : Type 1} → statement M
 free-spec =
@@ -111,9 +133,12 @@ free-spec =
     refuse-requires
     returns
     free-steps-requires
-    leave-requires
+    state-after-requires
+    leave-short-requires
     same-length
     returns-2
-    free-requires
     same-length-2
-    returns-3)
+    returns-3
+    free-requires
+    same-length-3
+    returns-4)

@@ -8,9 +8,9 @@ use Rattle.tables.specs.Values.{opened, atEntry, poolOf}
 use Rattle.tables.specs.Free.{free}
 use Rattle.tables.specs.declared.Pool.{Pool}
 use Rattle.pools.specs.Entering.{Admitted}
-use Rattle.calls.proofs.Reading.{ceilings-of, read-opened, read-kept, read-tables}
-use Rattle.calls.proofs.Left.{replies-none, replies-left, long}
-use Rattle.calls.proofs.Freeing.{freeable, free-none, free-some}
+use Rattle.calls.proofs.Reading.{ceilings-of, read-opened, read-kept}
+use Rattle.calls.proofs.Left.{replies-none, long}
+use Rattle.calls.proofs.Freeing.{freeable, kept-left, free-none, free-left}
 use Rattle.calls.proofs.unready.free.Statement.{statement}
 use Rattle.calls.proofs.unready.free.Tie as tie
 
@@ -84,20 +84,23 @@ free-steps-requires c κs =
     (freeable (a .pool .value) _ (admitted v) _ (read v) _ _ (h .choice .given .1) (d .find-buffer .ensures .1), omega (arith, long (a .log .now) (admitted v .log)))
 
 leave-requires : tie.Need-leave-requires
-leave-requires c κs = c .before .before .free-steps .ensures .walked .kept
+leave-requires c κs =
+    let f = c .before .before .before .before in
+    let v = f .before .before .before .before .before .before in
+    kept-left (value v) _ (admitted v) _ (read v) (f .free-steps .ensures)
 
 same-length : tie.Need-same-length
 same-length c = search needs
 
 returns-3 : tie.Need-returns-3
 returns-3 c =
-    let f = c .before .before .before in
+    let f = c .before .before .before .before .before in
     let h = f .before .before .before in
     let d = h .before .before in
     let v = d .before in
     let a = at-entry (entered v) .args in
-    let w = free-some (a .pool .value) _ (admitted v) _ (read v) (a .address .0) _ _ (d .find-buffer .ensures .0) _ (h .choice .given .1) in
-    replies-left (a .pool) _ (read-tables (a .pool .value) _ _ (read v)) (f .free-steps .ensures) w (c .leave .ensures)
+    free-left (a .pool .value) _ (admitted v) _ (read v) (a .address .0) _ _ (d .find-buffer .ensures .0) _ (h .choice .given .1) (f .free-steps .ensures)
+    (c .leave .ensures)
 
 pub free-spec : {M : Type 1} → statement M
 free-spec =
