@@ -62,6 +62,14 @@ module _ {A : Type 0} (key : A → ℕ) where
   rises-at b (x ∷ l) zero d r h = r .0
   rises-at b (x ∷ l) (suc i) d r h = omega (arith, r .0, rises-at (key x) l i d (r .1) (le-of-suc-le-suc h))
 
+  -- no key is below one before it
+  pub rises-to : (b : ℕ) (l : List A) (i j : ℕ) (d : A) → Rises key b l → i ≤ j → j < length l → key (getD l i d) ≤ key (getD l j d)
+  rises-to b [] i j d r h k = absurd (omega arith)
+  rises-to b (x ∷ l) zero zero d r h k = omega arith
+  rises-to b (x ∷ l) zero (suc j) d r h k = omega (arith, rises-at (key x) l j d (r .1) (le-of-suc-le-suc k))
+  rises-to b (x ∷ l) (suc i) zero d r h k = absurd (omega arith)
+  rises-to b (x ∷ l) (suc i) (suc j) d r h k = rises-to (key x) l i j d (r .1) (le-of-suc-le-suc h) (le-of-suc-le-suc k)
+
   rises-suc : (b : ℕ) (l : List A) (i : ℕ) (d : A) → Rises key b l → suc i < length l → key (getD l i d) < key (getD l (suc i) d)
   rises-suc b [] i d r h = absurd (omega arith)
   rises-suc b (x ∷ l) zero d r h = rises-at (key x) l 0 d (r .1) (le-of-suc-le-suc h)

@@ -15,6 +15,7 @@ pub mod InOrder
 pub mod Found
 pub mod Pushed
 pub mod Keys
+pub mod Moved
 pub mod Compact
 pub mod Front
 pub mod Lowest

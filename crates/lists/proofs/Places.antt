@@ -56,6 +56,20 @@ module _ {ℓ} {A : Type ℓ} where
   pub drop-removeAt : (i : ℕ) (l : List A) → drop i (removeAt i l) ≡ drop (i + 1) l
   drop-removeAt i l = rw add-one (drop-remove i l)
 
+  pub getD-removeAt-before : (l : List A) (i j : ℕ) (d : A) → j < i → getD (removeAt i l) j d ≡ getD l j d
+  getD-removeAt-before [] i j d h = refl
+  getD-removeAt-before (x ∷ l) zero j d h = absurd (omega arith)
+  getD-removeAt-before (x ∷ l) (suc i) zero d h = refl
+  getD-removeAt-before (x ∷ l) (suc i) (suc j) d h = getD-removeAt-before l i j d (le-of-suc-le-suc h)
+
+  getD-remove : (l : List A) (i : ℕ) (d : A) → getD (removeAt i l) i d ≡ getD l (suc i) d
+  getD-remove [] i d = refl
+  getD-remove (x ∷ l) zero d = refl
+  getD-remove (x ∷ l) (suc i) d = getD-remove l i d
+
+  pub getD-removeAt : (l : List A) (i : ℕ) (d : A) → getD (removeAt i l) i d ≡ getD l (i + 1) d
+  getD-removeAt l i d = rw add-one (getD-remove l i d)
+
   up : (l : List A) (j : ℕ) (d : A) → suc j < length l → removeAt j (set l (suc j) (getD l j d)) ≡ removeAt (suc j) l
   up [] j d h = absurd (omega arith)
   up (x ∷ []) j d h = absurd (omega arith)
