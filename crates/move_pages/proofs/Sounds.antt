@@ -1,16 +1,19 @@
 -- What the code leans on, read off the tables around it: a page to be moved is in the table, so there is room for it at its new address; the range in
 -- hand and the zombies end where addresses end. Assumes nothing.
-use mathlib.Core.Path.{_≡_}
+use mathlib.Core.Path.{_≡_, ap, _∙_}
 use mathlib.Core.Logic.{inl, inr, ⊎-elim}
 use mathlib.Core.List.{List, [], _∷_, _++_}
 use Prim.Native.Nat.{ℕ, suc, _+_, _*_, _/_, _≤_, _<_, _^_}
 use native.Mathlib.Omega.{arith}
 use native.Mathlib.Nat.{suc-mul, add-mul}
+use lib.Dec.{eqb}
 use lib.ListN.{length, length-append}
 use Rattle.lists.specs.Tests.{All, Member}
+use Rattle.lists.specs.Places.{place}
 use Rattle.lists.specs.Order.{put, without}
 use Rattle.lists.proofs.Tests.{cases-lt}
-use Rattle.lists.proofs.Order.{length-put}
+use Rattle.lists.proofs.Order.{length-put, without-is}
+use Rattle.lists.proofs.Found.{removeAt-past}
 use Rattle.lists.proofs.Members.{all-members, member-all, sum-member}
 use Rattle.tables.specs.Values
 use Rattle.tables.specs.Values.{pagesOf, packPages, withPages}
@@ -20,7 +23,7 @@ use Rattle.tables.specs.Pull.{starts, pagesIn, handleAt}
 use Rattle.tables.specs.declared.Zombie.{Zombie}
 use Rattle.tables.specs.declared.Zombies.{Zombies}
 use Rattle.tables.specs.declared.Pages.{Pages}
-use Rattle.tables.proofs.Packs.{pages-pack, pages-kept}
+use Rattle.tables.proofs.Packs.{pages-pack, pages-kept, pages-count}
 use Rattle.keeping.specs.Cover.{within, coverZombies}
 use Rattle.keeping.specs.Sound.{WholeRange}
 use Rattle.keeping.proofs.Cover.{within-in, within-out}
@@ -48,7 +51,7 @@ module _ {page a : ℕ} {bs : List ℕ} {g : Pages} (w : Waiting page a bs g) wh
           (cases-lt x a)
 
 module _ {page a b : ℕ} {bs : List ℕ} {g : Pages} (w : Waiting page a (b ∷ bs) g) where
-  pub fewer : suc (length (without at b (pagesOf g))) ≡ length (pagesOf g)
+  fewer : suc (length (without at b (pagesOf g))) ≡ length (pagesOf g)
   fewer =
       let t = withPages (pagesOf g) (w .around) in
       let q = page-there (w .lost) (w .hand) page (w .base) a (w .spans) (w .around .free) b bs t (w .moving) in
@@ -57,13 +60,21 @@ module _ {page a b : ℕ} {bs : List ℕ} {g : Pages} (w : Waiting page a (b ∷
   pub fits-page : a + page ≤ 2 ^ 63
   fits-page = fits w page (page-positive w) (omega (arith, suc-mul (length bs) page))
 
-  pub few : length (pagesOf g) ≤ 256
+  few : length (pagesOf g) ≤ 256
   few = omega (arith, w .moving .few .pages)
+
+  -- its place is one of those in use
+  pub stands : place (λ q. eqb (at q) b) (pagesOf g) < g .count
+  stands =
+      let gone : length (pagesOf g) ≤ place (λ q. eqb (at q) b) (pagesOf g) → without at b (pagesOf g) ≡ pagesOf g =
+      λ past. without-is at b 0 (pagesOf g) (w .moving .sound .pagesRise) ∙ removeAt-past _ (pagesOf g) past in
+      ⊎-elim (λ h. omega (arith, pages-count g (w .pages))) (λ past. absurd (omega (arith, fewer, ap length (gone past))))
+      (cases-lt (place (λ q. eqb (at q) b) (pagesOf g)) (length (pagesOf g)))
 
   pub kept-left : KeptPages (packPages (without at b (pagesOf g)))
   kept-left = pages-kept _ (omega (arith, fewer, few))
 
-  pub kept-there : (h : ℕ) → KeptPages (packPages (put at (Values.page a h) (without at b (pagesOf g))))
+  kept-there : (h : ℕ) → KeptPages (packPages (put at (Values.page a h) (without at b (pagesOf g))))
   kept-there h = pages-kept _ (omega (arith, length-put at (Values.page a h) (without at b (pagesOf g)), fewer, few))
 
   pub waiting-next : Waiting page (a + page) bs (packPages (put at (Values.page a (handleAt b (pagesOf g))) (without at b (pagesOf g))))

@@ -1,5 +1,5 @@
 // Make room, still lacking: the pages of the parts pulled are mapped where room is made, and active there instead.
-ghost use mathlib.Core.List.{List, [], _∷_, _++_};
+ghost use mathlib.Core.List.{List, _++_};
 ghost use Prim.Native.Nat.{ℕ, _+_, _*_, _/_, _≤_, _^_};
 ghost use lib.ListN.{length};
 ghost use Rattle.tables.specs.Pull.{starts, pagesIn};
@@ -8,7 +8,7 @@ ghost use Rattle.move_pages.specs.Moving.{Waiting, Moves, pulled, PagesM
 use driving::Ended;
 use driving::must_tell;
 use entries::pages::handle_at;
-use entries::pages::put_page;
+use entries::pages::with_moved;
 use entries::pages::without_page;
 use tables::Pages;
 use tables::Zombie;
@@ -20,38 +20,6 @@ pub struct Moved {
     pub pages: Pages,
     pub ended: Ended,
     pub made: usize,
-}
-
-// The page at `from` is taken out before the map: where that fails, it is in no table.
-fn move_page(
-    pages: Pages,
-    from: u64,
-    to: u64,
-    page: u64,
-    answers: &[u64],
-    log: &mut [u64],
-    made: usize,
-) -> Moved
-    requires { ⌜ ((others : List ℕ) × Waiting page to (from ∷ others) pages) × (4 * (made + 1) ≤ length (now log)) ⌝ }
-    ensures { λ r. ⌜ Moves (from ∷ []) page to (now (answers .entry)) pages made (now (log .entry)) r (now (log .exit)) ⌝ }
-{
-    let handle = handle_at(pages, Address(from));
-    let left = without_page(pages, Address(from));
-    let ended = must_tell(answers, log, made, Word::Map, to, handle.0);
-    let n = made + 1;
-    let Ended::On = ended else {
-        return Moved {
-            pages: left,
-            ended,
-            made: n,
-        };
-    };
-    let there = put_page(left, Address(to), handle);
-    Moved {
-        pages: there,
-        ended: Ended::On,
-        made: n,
-    }
 }
 
 // The pages of one zombie, from its start on.
@@ -73,13 +41,19 @@ fn move_zombie(
     let mut at = to;
     let mut left = zombie.size / page;
     while 0 < left {
-        let moved = move_page(gs, from, at, page, answers, log, n);
-        let ended = moved.ended;
+        let handle = handle_at(gs, Address(from));
+        let ended = must_tell(answers, log, n, Word::Map, at, handle.0);
+        n += 1;
         let Ended::On = ended else {
-            return moved;
+            // the page is in no table where its map fails
+            gs = without_page(gs, Address(from));
+            return Moved {
+                pages: gs,
+                ended,
+                made: n,
+            };
         };
-        gs = moved.pages;
-        n = moved.made;
+        gs = with_moved(gs, Address(from), Address(at));
         from += page;
         at += page;
         left -= 1;

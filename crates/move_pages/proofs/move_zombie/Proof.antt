@@ -1,22 +1,28 @@
 -- `move_pages::move_zombie` meets its contract. The invariant: what moving the pages that are left does from here, moving all of them does, whatever
--- is moved after them. Assumes nothing.
-use mathlib.Core.Path.{_≡_, refl, sym, _∙_}
-use mathlib.Core.List.{List, [], _∷_, _++_}
+-- is moved after them. The rule takes the page out before its map and puts it in after; the map reads no table, so the code does both at once after it,
+-- or only takes it out where the map failed. Assumes nothing.
+use mathlib.Core.Path.{_≡_, refl, ap, sym, _∙_}
+use mathlib.Core.List.{List, _∷_, _++_}
 use Prim.Native.Nat.{ℕ, _+_, _-_, _*_, _/_, _≤_, _^_}
 use native.Mathlib.Omega.{arith}
 use native.Mathlib.Nat.{zero-mul}
 use borrow.Author.Needs.{needs}
 use lib.ListN.{length}
+use Rattle.lists.specs.Order.{without}
 use Rattle.tables.specs.Values.{Tables, pagesOf, withPages}
 use Rattle.tables.specs.Steps.{Ending}
-use Rattle.tables.specs.Pull.{starts, movePages}
+use Rattle.tables.specs.Driver.{must, map}
+use Rattle.tables.specs.NewPages.{at}
+use Rattle.tables.specs.Pull.{starts, handleAt, movePages}
+use Rattle.tables.proofs.Packs.{pages-pack}
 use Rattle.driving.proofs.Endings.{not-on}
 use Rattle.driving.specs.Ran.{Ran, Point, point}
+use Rattle.driving.specs.Endings.{ending}
 use Rattle.keeping.proofs.Whole.{aligned-pages}
 use Rattle.keeping.proofs.PageStarts.{length-starts}
 use Rattle.move_pages.specs.Moving.{Waiting}
-use Rattle.move_pages.proofs.Turns.{starts-more, starts-none, mul-more}
-use Rattle.move_pages.proofs.Sounds.{page-positive, fits-page}
+use Rattle.move_pages.proofs.Turns.{starts-more, starts-none, mul-more, mapped-as, move-on, move-stop}
+use Rattle.move_pages.proofs.Sounds.{page-positive, fits-page, stands, kept-left, waiting-next}
 use Rattle.move_pages.proofs.move_zombie.Statement.{statement}
 use Rattle.move_pages.proofs.move_zombie.Tie as tie
 
@@ -31,16 +37,29 @@ Inv-loop to page answers log₀ made gs₀ n₀ from₀ at₀ left₀ log gs n f
 abbrev μ-loop : tie.MeasureT-loop
 μ-loop to page answers log₀ made gs₀ n₀ from₀ at₀ left₀ log gs n from at left = left
 
+-- the pages after the one at hand
+abbrev others-left : tie.In-loop Inv-loop μ-loop → List ℕ → List ℕ
+others-left c others =
+    let v = c .before in
+    let p = v .before .before .before .before .args .page in
+    starts (v .loop .left - 1) (v .loop .from + p) p ++ others
+
 -- the pages that are left at a turn: the first, and the others
 waits : (c : tie.In-loop Inv-loop μ-loop) (others : List ℕ) →
     let v = c .before in
     let s = v .before .before .before .before in
     let p = s .args .page in
     Waiting p (s .args .to) (starts (s .args .zombie .size / p) (s .args .zombie .start .0) p ++ others) (s .args .pages) →
-    Waiting p (v .loop .at) (v .loop .from ∷ (starts (v .loop .left - 1) (v .loop .from + p) p ++ others)) (v .loop .gs)
+    Waiting p (v .loop .at) (v .loop .from ∷ others-left c others) (v .loop .gs)
 waits c others k =
     let v = c .before in
     rw (starts-more (v .loop .left) (v .loop .from) (v .before .before .before .before .args .page) (c .loop-test .taken)) at (v .loop .inv .4 others k)
+
+first-waits : (c : tie.In-loop Inv-loop μ-loop) →
+    let v = c .before in
+    let s = v .before .before .before .before in
+    Waiting (s .args .page) (v .loop .at) (v .loop .from ∷ others-left c (s .pre .0 .0)) (v .loop .gs)
+first-waits c = let s = c .before .before .before .before .before in waits c (s .pre .0 .0) (s .pre .0 .1)
 
 -- the zombie's pages are those of its range
 ends-within : (c : tie.In-loop Inv-loop μ-loop) → let v = c .before in v .loop .from + v .before .before .before .before .args .page ≤ 2 ^ 63
@@ -56,8 +75,19 @@ ends-within c =
       s .pre .1 .0 .1,
     )
 
-abbrev turn : tie.After-move-page Inv-loop μ-loop → tie.In-loop Inv-loop μ-loop
-turn c = c .before .before
+abbrev turn : tie.After-must-tell Inv-loop μ-loop → tie.In-loop Inv-loop μ-loop
+turn c = c .before .before .before
+
+-- the map, of the rule's own handle
+mapped : (c : tie.After-must-tell Inv-loop μ-loop) (t : Tables) →
+    let v = turn c .before in
+    let s = v .before .before .before .before in
+    let u = withPages (without at (v .loop .from) (pagesOf (v .loop .gs))) t in
+    Ran (must (map (v .loop .at) (handleAt (v .loop .from) (pagesOf (v .loop .gs))))) (s .args .answers .now) (point (v .loop .n) u (v .loop .log))
+    (ending (c .must-tell .result)) (point (v .loop .n + 1) u (c .must-tell .last .1 .0))
+mapped c t =
+    let v = turn c .before in
+    mapped-as (v .loop .at) (c .before .before .handle-at .ensures) (c .must-tell .ensures (withPages (without at (v .loop .from) (pagesOf (v .loop .gs))) t))
 
 -- after the last page
 last-at : (c : tie.After-loop Inv-loop μ-loop) →
@@ -80,12 +110,17 @@ div-left c = page-positive (c .before .before .before .pre .0 .1)
 loop-holds : tie.Need-loop-holds Inv-loop μ-loop
 loop-holds c = (refl, omega arith, omega arith, refl, λ others k. k, λ others t p e u r. r)
 
-move-page-requires : tie.Need-move-page-requires Inv-loop μ-loop
-move-page-requires c κs =
-    let i = c .before in
+handle-at-requires : tie.Need-handle-at-requires Inv-loop μ-loop
+handle-at-requires c κs = first-waits c .pages
+
+must-tell-requires : tie.Need-must-tell-requires Inv-loop μ-loop
+must-tell-requires c κs =
+    let i = c .before .before in
     let v = i .before in
-    let s = v .before .before .before .before in
-    ((_, waits i (s .pre .0 .0) (s .pre .0 .1)), omega (arith, v .loop .inv .0, v .loop .inv .1, i .loop-test .taken, s .pre .1 .1))
+    omega (arith, v .loop .inv .0, v .loop .inv .1, i .loop-test .taken, v .before .before .before .before .pre .1 .1)
+
+add-n : tie.Need-add-n Inv-loop μ-loop
+add-n c = search needs
 
 enum-told : tie.Need-enum-told Inv-loop μ-loop
 enum-told c = search needs
@@ -93,35 +128,45 @@ enum-told c = search needs
 enum-told-2 : tie.Need-enum-told-2 Inv-loop μ-loop
 enum-told-2 c = search needs
 
+without-page-requires : tie.Need-without-page-requires Inv-loop μ-loop
+without-page-requires c κs =
+    let w = first-waits (turn (c .before .before .before .before)) in
+    (w .pages, w .moving .sound .pagesRise)
+
 same-length : tie.Need-same-length Inv-loop μ-loop
 same-length c = search needs
 
 returns : tie.Need-returns Inv-loop μ-loop
 returns c =
-    let w = c .before .before .before .before in
+    let w = c .before .before .before .before .before in
     let i = turn w in
     let v = i .before in
     let s = v .before .before .before .before in
     let p = s .args .page in
-    let m = w .move-page .ensures in
-    let e = c .enum-told2 .given .1 in
+    let h = i .loop-test .taken in
+    let e = c .before .enum-told2 .given .1 in
+    let left-is : pagesOf (c .without-page .result) ≡ without at (v .loop .from) (pagesOf (v .loop .gs)) =
+    ap pagesOf (c .without-page .ensures) ∙ pages-pack _ in
     record {
       goes = λ f. not-on (sym e ∙ f);
       stops = λ o f others t q. v .loop .inv .5 others t q _ _
-          (rw (starts-more (v .loop .left) (v .loop .from) p (i .loop-test .taken)) (m .stops o f (starts (v .loop .left - 1) (v .loop .from + p) p ++ others) t q));
-      pages = m .pages;
-      most = omega (arith, m .most, v .loop .inv .1, i .loop-test .taken, length-starts (s .args .zombie .size / p) (s .args .zombie .start .0) p);
+          (rw (starts-more (v .loop .left) (v .loop .from) p h, left-is)
+          (move-stop (v .loop .from) (v .loop .at) (others-left i others) (mapped w t) (ap ending f)));
+      pages = rw (c .without-page .ensures) (kept-left (first-waits i));
+      most = omega (arith, v .loop .inv .1, h, length-starts (s .args .zombie .size / p) (s .args .zombie .start .0) p);
       again = λ f. not-on (sym e ∙ f);
     }
+
+with-moved-requires : tie.Need-with-moved-requires Inv-loop μ-loop
+with-moved-requires c κs =
+    let w = first-waits (turn (c .before .before .before .before)) in
+    ((w .pages, w .moving .sound .pagesRise), stands w)
 
 add-from : tie.Need-add-from Inv-loop μ-loop
 add-from c = omega (arith, ends-within (turn (c .before .before .before .before .before)))
 
 add-at : tie.Need-add-at Inv-loop μ-loop
-add-at c =
-    let i = turn (c .before .before .before .before .before) in
-    let s = i .before .before .before .before .before in
-    omega (arith, fits-page (waits i (s .pre .0 .0) (s .pre .0 .1)))
+add-at c = omega (arith, fits-page (first-waits (turn (c .before .before .before .before .before))))
 
 sub-left : tie.Need-sub-left Inv-loop μ-loop
 sub-left c = omega (arith, turn (c .before .before .before .before .before) .loop-test .taken)
@@ -136,18 +181,17 @@ loop-again c =
     let v = i .before in
     let s = v .before .before .before .before in
     let p = s .args .page in
-    let m = w .move-page .ensures in
     let h = i .loop-test .taken in
-    let on-is = c .before .enum-told .given .1 in
-    let once : v .loop .at + length (v .loop .from ∷ []) * p ≡ v .loop .at + p = omega arith in
-    let rest : List ℕ → List ℕ = λ others. starts (v .loop .left - 1) (v .loop .from + p) p ++ others in (
-      omega (arith, v .loop .inv .0, w .move-page .kept .1 .1 .1 .1 .1 .0),
-      omega (arith, m .most, v .loop .inv .1, h),
+    let on-is = ap ending (c .before .enum-told .given .1) in (
+      omega (arith, v .loop .inv .0, w .must-tell .kept .1 .0),
+      omega (arith, v .loop .inv .1, h),
       omega (arith, v .loop .inv .2, mul-more (v .loop .left) p h),
       omega (arith, v .loop .inv .3, mul-more (v .loop .left) p h),
-      λ others k. rw once at (m .again on-is (rest others) (waits i others k)),
+      λ others k. rw (c .with-moved .ensures) (waiting-next (waits i others k)),
       λ others t q e u r. v .loop .inv .5 others t q e u
-          (rw (starts-more (v .loop .left) (v .loop .from) p h) (m .goes on-is (rest others) t q e u (rw once r))),
+          (rw (starts-more (v .loop .left) (v .loop .from) p h)
+          (move-on (v .loop .from) (v .loop .at) (others-left i others) (mapped w t) on-is (v .loop .at + p) (omega (arith, q))
+          (rw (c .with-moved .ensures, pages-pack) at r))),
     )
 
 same-length-2 : tie.Need-same-length-2 Inv-loop μ-loop
@@ -178,11 +222,15 @@ move-zombie-spec =
     μ-loop
     div-left
     loop-holds
-    move-page-requires
+    handle-at-requires
+    must-tell-requires
+    add-n
     enum-told
     enum-told-2
+    without-page-requires
     same-length
     returns
+    with-moved-requires
     add-from
     add-at
     sub-left
