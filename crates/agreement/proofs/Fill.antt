@@ -7,7 +7,6 @@ use Prim.Native.Nat.{ℕ, _-_}
 use native.Mathlib.Omega.{arith}
 use borrow.Author.Tests.{leb-false}
 use lib.Dec.{leb}
-use Rattle.tables.specs.Values.{Tables}
 use Rattle.tables.specs.NewPages.{Room}
 use Rattle.tables.specs.MakeRoom.{fill}
 use Rattle.tables.specs.declared.FreeRegion.{FreeRegion}
@@ -15,9 +14,7 @@ use Rattle.keeping.specs.Sound as S
 use Rattle.keeping.specs.MakeRoom.{Made, Measured}
 use Rattle.keeping.proofs.Fill.{
   Newly,
-  Filled,
   Ready,
-  newly-most,
   all-range,
   all-due,
   fills-all,
@@ -29,27 +26,12 @@ use Rattle.keeping.proofs.Fill.{
   behind-spare,
   fills-rest,
 }
-use Rattle.keeping.proofs.MakeRoom.{Dropped, Roomed}
+use Rattle.keeping.proofs.MakeRoom.{Dropped, Roomed, filled-roomed, newly-dropped}
 use Rattle.judging.specs.declared.Run.{Run}
 use Rattle.agreement.specs.Agrees.{Serving, Agreeing, Ends}
 use Rattle.agreement.specs.Judges.{Judges}
 use Rattle.agreement.proofs.Judges.{judges-from, judges-to, judges-ends, judges-given, judges-and, judges-give, judges-looked-at, judges-cond}
 use Rattle.agreement.proofs.PullIn.{judges-pullIn}
-
--- what is dropped, within its bound
-filled-roomed : (lost : ℕ → ℕ) (f n s d : ℕ) (r : FreeRegion) (t : Tables) → Dropped f n d → Filled lost n s d r t → Roomed lost f n s r t
-filled-roomed lost f n s d r t h w =
-    record {
-      dropped = (w .dropped, d);
-      bounded = h;
-      sound = w .sound;
-      member = w .member;
-      stream = w .stream;
-      size = w .size;
-      most = w .most;
-      few = w .few;
-      room = w .room;
-    }
 
 module _ {run : Run} (serving : Serving run) (lost : ℕ → ℕ) (p f : ℕ) (o : Room) (g : Measured p f o) where
   -- the free bytes suffice: they fill the whole range
@@ -83,12 +65,8 @@ module _ {run : Run} (serving : Serving run) (lost : ℕ → ℕ) (p f : ℕ) (o
       judges-to (λ r t s q. (filled-roomed lost f (o .size) (o .stream) 0 r t (record { most = omega arith; enough = λ h. refl }) (q .0), q .1))
       (judges-ends (λ o t s q. q .1) (judges-and (fills-all lost p f o g z) (agrees-all z)))))
   judges-fill (some r) =
-      judges-from {P = λ t s. Dropped f (o .size) (r .size - o .missing) × (Newly lost p f o r t × Agreeing run S.none [] t s)} (λ t s q. (dropped t (q .0), q))
+      judges-from {P = λ t s. Dropped f (o .size) (r .size - o .missing) × (Newly lost p f o r t × Agreeing run S.none [] t s)}
+      (λ t s q. (newly-dropped lost p f o g r t (q .0), q))
       (judges-given (λ d.
       judges-to (λ q t s h. (filled-roomed lost f (o .size) (o .stream) (r .size - o .missing) q t d (h .0), h .1))
       (judges-ends (λ o t s q. q .1) (judges-and (fills-rest lost p f o g r) (agrees-rest r)))))
-    where
-      dropped : (u : Tables) → Newly lost p f o r u → Dropped f (o .size) (r .size - o .missing)
-      dropped u w =
-          let most = newly-most lost p f o g r u w in
-          record { most = omega (arith, g .rest); enough = λ h. absurd (omega (arith, g .rest, w .least .0)) }

@@ -1,20 +1,20 @@
 -- Moving pages: a page that is taken out of the page table leaves its handle held. It is mapped at the next address of a range in hand, which is inside the
 -- roots and in no other range, so nothing is mapped there; its old place stays mapped to it, as a zombie's. Assumes nothing.
 use mathlib.Core.Path.{_≡_, refl, ap, sym}
-use mathlib.Core.Logic.{inl, inr}
+use mathlib.Core.Logic.{inr}
 use mathlib.Core.Bool.{true}
 use mathlib.Core.List.{List, [], _∷_}
 use Prim.Native.Nat.{ℕ, suc, _+_, _-_, _*_, _≤_, _<_, _%_}
 use native.Mathlib.Omega.{arith}
 use native.Mathlib.Nat.{zero-mul, suc-mul}
-use borrow.Author.Tests.{eq-eqb, ne-eqb, le-leb}
+use borrow.Author.Tests.{le-leb}
 use lib.Dec.{leb}
 use lib.ListN.{length}
 use Rattle.lists.specs.Tests.{Member}
 use Rattle.lists.specs.Order.{put, Rises, without}
 use Rattle.lists.specs.Walks.{sum}
 use Rattle.lists.proofs.Tests.{length-mapped, all-implies}
-use Rattle.lists.proofs.Members.{member-above, all-without, sum-without}
+use Rattle.lists.proofs.Members.{all-without, sum-without}
 use Rattle.words.specs.declared.Word.the-variants.{Map}
 use Rattle.tables.specs.Values
 use Rattle.tables.specs.Values.{Tables, withPages}
@@ -33,7 +33,7 @@ use Rattle.keeping.specs.Move.{Movable, Moving}
 use Rattle.keeping.proofs.Cover.{within-join, within-out, within-none}
 use Rattle.keeping.proofs.Whole.{within-page}
 use Rattle.keeping.proofs.PageStarts.{length-startsOf}
-use Rattle.keeping.proofs.Move.{Moved, page-there, moving-next, moving-first, moves-pages}
+use Rattle.keeping.proofs.Move.{handleAt-is, unpaged, Moved, page-there, moving-next, moving-first, moves-pages}
 use Rattle.judging.specs.Rules.{Judge, R3}
 use Rattle.judging.specs.Verdict.{recorded, ruled, sized, placed}
 use Rattle.judging.specs.declared.Run.{Run}
@@ -45,17 +45,7 @@ use Rattle.agreement.proofs.Meets.{agrees-inside, agrees-seen}
 use Rattle.agreement.proofs.Agrees.{spansAt, agrees-as}
 use Rattle.agreement.proofs.Handles.{meets-map, agrees-mapped}
 
--- the handle of the page that starts there
-handleAt-is : (b : ℕ) (g : Page) (l : List Page) → Rises at b l → Member g l → handleAt (at g) l ≡ g .handle .0
-handleAt-is b g (k ∷ l) r (inl e) = rw (← e, eq-eqb (at g) (at g) refl)
-handleAt-is b g (k ∷ l) r (inr m) =
-    let apart : at k ≡ at g → ⊥ = λ e. omega (arith, member-above at (at k) g l (r .1) m) in
-    rw (ne-eqb (at k) (at g) apart) (handleAt-is (at k) g l (r .1) m)
-
--- the tables without the page at `b`, and with a page at `a`
-abbrev unpaged : ℕ → Tables → Tables
-unpaged b t = withPages (without at b (t .pages)) t
-
+-- the tables with a page at `a`
 abbrev paged : ℕ → ℕ → Tables → Tables
 paged a h t = withPages (put at (Values.page a h) (t .pages)) t
 

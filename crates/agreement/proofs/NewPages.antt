@@ -1,6 +1,6 @@
 -- The missing pages. A handle that the pool finds not to be active is held by nobody, so that the judge takes it, and no mapped page has it; the page is
 -- mapped in hand, where nothing is. Where the creation fails, what was made is rolled back. Assumes nothing.
-use mathlib.Core.Path.{_≡_, refl, ap, sym, _∙_}
+use mathlib.Core.Path.{_≡_, refl, ap, sym}
 use mathlib.Core.Logic.{_⊎_, inl, inr, ⊎-elim}
 use mathlib.Core.Bool.{Bool, true, false, false≢true}
 use mathlib.Core.List.{List, [], _∷_}
@@ -28,15 +28,15 @@ use Rattle.tables.specs.NewPages.{Room, at, mapPage, isActive, created, makePag
 use Rattle.tables.specs.declared.Page as Pool
 use Rattle.tables.specs.declared.Outcome.the-variants.{Incredible}
 use Rattle.trace.specs.Kinds.{ofRecord}
-use Rattle.keeping.specs.Cover.{within, equal, pagesAt, handlesAt}
+use Rattle.keeping.specs.Cover.{within, equal, handlesAt}
 use Rattle.keeping.specs.Sound as S
 use Rattle.keeping.specs.Sound.{Whole}
 use Rattle.keeping.specs.MakeRoom.{PagesTo, Made}
-use Rattle.keeping.proofs.Cover.{within-join, within-in, within-out, within-none}
-use Rattle.keeping.proofs.Whole.{aligned-pages, whole-past, within-page}
+use Rattle.keeping.proofs.Cover.{within-in, within-out, within-none}
+use Rattle.keeping.proofs.Whole.{aligned-pages}
 use Rattle.keeping.proofs.Counting.{none-counted, none-passes}
 use Rattle.keeping.proofs.Sounds.{sound-once}
-use Rattle.keeping.proofs.NewPages.{maps-page}
+use Rattle.keeping.proofs.NewPages.{next-whole, within-next, next-none, maps-page}
 use Rattle.judging.specs.Rules.{Judge, Page, R2, R3}
 use Rattle.judging.specs.Verdict.{recorded, ruled, sized, withHeld, placed}
 use Rattle.judging.specs.declared.Run.{Run}
@@ -103,25 +103,14 @@ module _ {run : Run} (serving : Serving run) where
       w = r .tables
 
       here : Whole (t .page) a
-      here =
-          let e : s + (a - s) ≡ a = omega (arith, w .place .0) in
-          rw e at (whole-past (a - s) (w .start) (w .place .1))
+      here = next-whole w
 
       in-hand : within s n a ≡ 1
       in-hand = within-in s n a (w .place .0) (omega (arith, w .fits, suc-mul k p, w .sound .page, w .making .known .page))
 
-      -- no page starts at `a` yet
+      -- the page at `a` is not yet made
       unmade : within s (a - s) a ≡ 0
       unmade = within-out s (a - s) a (inr (omega (arith, w .place .0)))
-
-      -- one more page is made: the one at `a`
-      added : (x : ℕ) → x % t .page ≡ 0 → within s (a + p - s) x ≡ within s (a - s) x + equal a x
-      added x e =
-          let q : t .page ≡ p = w .making .known .page in
-          let next : a + p - s ≡ a - s + p = omega (arith, w .place .0) in
-          let b : s + (a - s) ≡ a = omega (arith, w .place .0) in
-          let j : within s (a - s + p) x ≡ within s (a - s) x + within a p x = rw b at (within-join s (a - s) p x) in
-          rw next (j ∙ rw (within-page p a x (rw q at (w .sound .page)) (rw q at (here .aligned)) (rw q at e)))
 
       -- The page is in a root, and no range of a table lies there, nor a page made before.
       met : R3 z a h ≡ true
@@ -135,9 +124,6 @@ module _ {run : Run} (serving : Serving run) where
           all-put at _ (page a h) (t .pages) (λ _ _. ((λ _. refl), all-implies (λ q. q .handle ≡ h → ⊥) _ (λ q d e. absurd (d e)) (z .mapped) (r .mapped)))
           (all-members _ (t .pages) before)
         where
-          unstarted : pagesAt (t .pages) a ≡ 0
-          unstarted = omega (arith, w .sound .pagesMatch a (here .aligned), sound-once (w .sound) a, in-hand, unmade)
-
           before : (g : Pool.Page) → Member g (t .pages) → s ≤ at g → at g < a + p → Alone (placed z a h) g
           before g i lo hi = ((λ e. absurd (differs (sym e))), member-all _ g (t .pages) i (r .fresh) lo below)
             where
@@ -146,7 +132,7 @@ module _ {run : Run} (serving : Serving run) where
 
               below : at g < a
               below =
-                  let away : at g ≡ a → ⊥ = member-all _ g (t .pages) i (none-counted at a (t .pages) unstarted) in
+                  let away : at g ≡ a → ⊥ = member-all _ g (t .pages) i (none-counted at a (t .pages) (next-none w)) in
                   let e : at g % t .page ≡ 0 = member-all _ g (t .pages) i (w .sound .pages) .aligned in
                   ⊎-elim
                   (λ (q : at g < a). q)
@@ -162,7 +148,7 @@ module _ {run : Run} (serving : Serving run) where
             inside = agrees-inside serving (r .agrees);
             state = placed z a h;
             accepts = rw (agrees-seen serving (r .agrees), met, le-leb (suc (length (z .mapped))) 4096 most);
-            holds = (agrees-mapped a h (r .agrees) (here .aligned) added, fresh-mapped);
+            holds = (agrees-mapped a h (r .agrees) (here .aligned) (within-next w), fresh-mapped);
           }
 
   module _ (lost : ℕ → ℕ) (p f k : ℕ) (o : Room) (a : ℕ) where

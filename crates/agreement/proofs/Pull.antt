@@ -13,14 +13,14 @@ use Rattle.words.specs.declared.Word.the-variants.{Wait}
 use Rattle.tables.specs.Values.{Tables, withFree, withZombies}
 use Rattle.tables.specs.Steps.{_>>=_, give}
 use Rattle.tables.specs.Driver.{wait}
-use Rattle.tables.specs.InsertFree.{from, putRest, withoutFree}
+use Rattle.tables.specs.InsertFree.{from, putRest}
 use Rattle.tables.specs.Pull.{settle, pullOne, pull}
 use Rattle.tables.specs.declared.FreeRegion.{FreeRegion}
 use Rattle.tables.specs.declared.Outcome.{Outcome}
 use Rattle.keeping.specs.Cover.{within}
 use Rattle.keeping.specs.Sound.{none}
 use Rattle.keeping.specs.Pull.{Pulling}
-use Rattle.keeping.proofs.Pull.{part, takenOf, spansAfter, Pulled, pulling-next, pulls}
+use Rattle.keeping.proofs.Pull.{outOf, part, pulled, takenOf, spansAfter, Pulled, pulling-next, pulls}
 use Rattle.judging.specs.Rules.{Judge, R9asked}
 use Rattle.judging.specs.Verdict.{recorded, ruled}
 use Rattle.judging.specs.declared.Run.{Run}
@@ -42,15 +42,9 @@ judges-settle {P} c r below =
     (λ _. judges-must Wait (r .id .0) c (λ _. refl)
     (λ t s p few. let q = below t s p in record { inside = q .0; state = s; accepts = rw (q .1 .0, q .1 .1); holds = p }))))
 
--- the tables without the region `r`; then with the first `n` bytes of it as a zombie; then with its rest put back
-abbrev outOf : FreeRegion → Tables → Tables
-outOf r t = withFree (withoutFree (from r) (t .free)) t
-
+-- the tables between `outOf` and `pulled`: the first `n` bytes of `r` are a zombie, and its rest is not yet put back
 abbrev zombied : ℕ → FreeRegion → Tables → Tables
 zombied n r t = withZombies (t .zombies ++ part n r ∷ []) (outOf r t)
-
-abbrev pulled : ℕ → FreeRegion → Tables → Tables
-pulled n r t = withFree (putRest n r (withoutFree (from r) (t .free))) (withZombies (t .zombies ++ part n r ∷ []) t)
 
 module _ {run : Run} (serving : Serving run) where
   module _ (lost hand bare : ℕ → ℕ) (p lacks c : ℕ) (keep : List FreeRegion) (r : FreeRegion) (l : List FreeRegion) (pos : 0 < lacks) where

@@ -12,13 +12,13 @@ use Rattle.tables.specs.Steps.{_>>_}
 use Rattle.tables.specs.Driver.{must, access}
 use Rattle.tables.specs.InsertFree.{bytes, insertFree}
 use Rattle.tables.specs.NewPages.{Room}
-use Rattle.tables.specs.Pull.{pullOrder, pagesIn, movePages, pullIn}
+use Rattle.tables.specs.Pull.{pagesIn, movePages, pullIn}
 use Rattle.tables.specs.declared.FreeRegion.{FreeRegion}
 use Rattle.tables.specs.declared.Zombie.{Zombie}
 use Rattle.tables.specs.declared.Outcome.{Outcome}
 use Rattle.keeping.specs.Cover.{within}
 use Rattle.keeping.specs.Sound.{none, WholeRange}
-use Rattle.keeping.specs.Pull.{Pulling, Spare}
+use Rattle.keeping.specs.Pull.{Pulling, place, filling, order, Spare}
 use Rattle.keeping.specs.Move.{Movable}
 use Rattle.keeping.proofs.Pull.{Pulled}
 use Rattle.keeping.proofs.Move.{Moved}
@@ -37,52 +37,49 @@ use Rattle.agreement.proofs.Move.{judges-moves}
 
 module _ {run : Run} (serving : Serving run) where
   module _ (lost rest : ℕ → ℕ) (p lacks c : ℕ) (keep others : List FreeRegion) (o : Room) where
-    abbrev place : ℕ
-    place = o .start + o .missing
+    -- where the range to be filled starts, and what is in hand
+    abbrev to : ℕ
+    to = place o
 
-    -- the range to be filled, and what else is in hand
-    abbrev filling : ℕ → ℕ
-    filling x = rest x + within place lacks x
+    abbrev hand : ℕ → ℕ
+    hand = filling rest lacks o
 
-    abbrev order : List FreeRegion
-    order = pullOrder (o .stream) others
-
-    module _ (range : WholeRange p place lacks) (spare : Spare lacks c others) where
+    module _ (range : WholeRange p to lacks) (spare : Spare lacks c others) where
       -- the pages are moved into the range: the judge has just them mapped beside what the tables have
       abbrev Filled : ℕ → List FreeRegion → Tables → Judge → Type 0
-      Filled n l t s = Moved lost filling p place n 127 l t × Agreeing run (within place n) [] t s
+      Filled n l t s = Moved lost hand p to n 127 l t × Agreeing run (within to n) [] t s
 
       judges-access : (n : ℕ) (l : List FreeRegion) {E : Outcome → Tables → Judge → Type 0} → n ≡ lacks →
-          Judges (Filled n l) (must (access place lacks)) (λ _. Filled n l) E
+          Judges (Filled n l) (must (access to lacks)) (λ _. Filled n l) E
       unfolding access
       judges-access n l e =
-          judges-must Access place lacks (λ _. refl)
-          (λ t s q few. accepts-access serving place lacks (q .1) (q .0 .sound .page) (rw (q .0 .page) range) (λ x. rw e (omega arith)) q)
+          judges-must Access to lacks (λ _. refl)
+          (λ t s q few. accepts-access serving to lacks (q .1) (q .0 .sound .page) (rw (q .0 .page) range) (λ x. rw e (omega arith)) q)
 
       fills : (zs : List Zombie) (l : List FreeRegion) → sum (λ z. z .size) zs ≡ lacks → All (λ q. Member q l) keep →
-          Judges (λ t s. Movable lost filling p place 127 l zs t × Agreeing run none [] t s)
-          (movePages (pagesIn p zs) place >> (must (access place lacks) >> insertFree place lacks (o .stream)))
-          (λ r t s. PulledIn lost rest p place lacks (o .stream) keep r t × Agreeing run none [] t s) (Ends run lost)
+          Judges (λ t s. Movable lost hand p to 127 l zs t × Agreeing run none [] t s)
+          (movePages (pagesIn p zs) to >> (must (access to lacks) >> insertFree to lacks (o .stream)))
+          (λ r t s. PulledIn lost rest p to lacks (o .stream) keep r t × Agreeing run none [] t s) (Ends run lost)
       fills zs l total kept =
           let n = sum (λ z. z .size) zs in
-          judges-then (λ _. Filled n l) (judges-moves serving lost filling p place 127 l zs (omega arith))
+          judges-then (λ _. Filled n l) (judges-moves serving lost hand p to 127 l zs (omega arith))
           (λ _. judges-then (λ _. Filled n l) (judges-access n l total)
           (λ _. judges-from
           (λ t s q. (
             moved-inserting lost rest p lacks c keep others o range spare n l t total (q .0),
-            agrees-as (λ x. none x + within place lacks x) (q .1) (λ x _. rw total (omega arith)),
+            agrees-as (λ x. none x + within to lacks x) (q .1) (λ x _. rw total (omega arith)),
           ))
           (judges-to (λ r t s q. (record { before = l; inserted = q .0; kept = kept }, q .1))
-          (judges-insertFree-agreeing serving lost rest none none p (bytes l) place lacks (o .stream) l []))))
+          (judges-insertFree-agreeing serving lost rest none none p (bytes l) to lacks (o .stream) l []))))
 
-      pub judges-pullIn : Judges (λ t s. Pulling lost filling none p lacks c keep order t × Agreeing run none [] t s) (pullIn o lacks others)
-          (λ r t s. PulledIn lost rest p place lacks (o .stream) keep r t × Agreeing run none [] t s) (Ends run lost)
+      pub judges-pullIn : Judges (λ t s. Pulling lost hand none p lacks c keep (order others o) t × Agreeing run none [] t s) (pullIn o lacks others)
+          (λ r t s. PulledIn lost rest p to lacks (o .stream) keep r t × Agreeing run none [] t s) (Ends run lost)
       unfolding pullIn
       judges-pullIn =
-          judges-then (λ zs t s. Pulled lost filling none p lacks c keep order zs t × Agreeing run none [] t s)
-          (judges-pull serving lost filling none p (o .stream) lacks c keep order (spare-most lost rest p lacks c keep others o spare))
+          judges-then (λ zs t s. Pulled lost hand none p lacks c keep (order others o) zs t × Agreeing run none [] t s)
+          (judges-pull serving lost hand none p (o .stream) lacks c keep (order others o) (spare-most lost rest p lacks c keep others o spare))
           (λ zs. judges-looked-at (λ u w.
           let v = pulled-spare lost rest p lacks c keep others o range spare zs u w in
-          judges-from {P = λ t s. Movable lost filling p place 127 (u .free) zs t × Agreeing run none [] t s}
+          judges-from {P = λ t s. Movable lost hand p to 127 (u .free) zs t × Agreeing run none [] t s}
           (λ t s q. rw (q .0) (pulled-fills lost rest p lacks c keep others o range spare zs u v, q .1))
           (rw (w .page) (fills zs (u .free) (v .total) (v .kept)))))

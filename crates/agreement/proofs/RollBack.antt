@@ -1,21 +1,18 @@
 -- Rolling back: each new page is unmapped, where it is mapped and no live buffer lies, and its handle released, which no other page has ever had; then
 -- the range is a hole again and nothing is mapped that is in no table. Assumes nothing.
 use mathlib.Core.Path.{_≡_, refl, sym, _∙_}
-use mathlib.Core.Logic.{_⊎_, inl, inr, ⊎-elim}
-use mathlib.Core.Bool.{Bool, true, false, true≢false, _&&_, not}
+use mathlib.Core.Logic.{inl, inr, ⊎-elim}
+use mathlib.Core.Bool.{true, false, true≢false, _&&_, not}
 use mathlib.Core.List.{List, [], _∷_}
 use Prim.Native.Nat.{ℕ, _+_, _-_, _≤_, _<_, _%_}
 use native.Mathlib.Omega.{arith}
 use native.Mathlib.Nat.{mod-self}
-use borrow.Author.Tests.{le-leb, lt-leb, lt-ltb, le-ltb, leb-true, ltb-true, not-true}
+use borrow.Author.Tests.{leb-true, ltb-true, not-true}
 use lib.Dec.{leb, ltb}
 use Rattle.lists.specs.Tests.{All, Member}
-use Rattle.lists.specs.Order.{Rises, without}
-use Rattle.lists.specs.Walks.{sum}
+use Rattle.lists.specs.Order.{without}
 use Rattle.lists.proofs.Tests.{both, cases-lt, all-implies, all-filter}
-use Rattle.lists.proofs.Order.{rises-below}
-use Rattle.lists.proofs.Members.{member-all, all-members, member-filter, member-above, all-without, rises-without, sum-without, without-keeps}
-use Rattle.lists.proofs.Filters.{rises-filter}
+use Rattle.lists.proofs.Members.{member-all, all-members, member-filter}
 use Rattle.words.specs.declared.Word.the-variants.{Unmap, Release}
 use Rattle.tables.specs.Values.{Tables, withHoles, withPages}
 use Rattle.tables.specs.Driver.{unmap, release}
@@ -26,13 +23,13 @@ use Rattle.tables.specs.declared.Outcome.{Outcome}
 use Rattle.tables.specs.declared.Outcome.the-variants.{OutOfMemory}
 use Rattle.keeping.specs.Cover.{within, equal, pagesAt, handlesAt}
 use Rattle.keeping.specs.Sound as S
-use Rattle.keeping.specs.Sound.{WholeRange, Sound}
+use Rattle.keeping.specs.Sound.{WholeRange}
 use Rattle.keeping.specs.MakeRoom.{PagesTo}
 use Rattle.keeping.proofs.Cover.{within-in, within-out, within-le, equal-same}
 use Rattle.keeping.proofs.Whole.{aligned-add, within-page}
-use Rattle.keeping.proofs.Counting.{rises-once, count-kept, count-dropped}
-use Rattle.keeping.proofs.Sounds.{sound-once, sound-pages, sound-bare}
-use Rattle.keeping.proofs.NewPages.{rolls-back}
+use Rattle.keeping.proofs.Counting.{rises-once}
+use Rattle.keeping.proofs.Sounds.{sound-once}
+use Rattle.keeping.proofs.NewPages.{Unmaking, count-others, unmade, pages-new, unmaking-begins, rolls-back}
 use Rattle.judging.specs.Ranges.{inside}
 use Rattle.judging.specs.Rules.{Judge, Page, R4, R5}
 use Rattle.judging.specs.Verdict.{recorded, ruled, unmapped, released}
@@ -66,38 +63,11 @@ within-part a n b k x lo hi =
     (cases-lt x (a + n)))
     (cases-lt x a)
 
--- While a rollback goes on: the range from `s` is in hand, and the new pages `m` in it are still to be taken out.
-record Unmaking (lost : ℕ → ℕ) (s n : ℕ) (m : List Pool.Page) (t : Tables) : Type 0 where
-  sound : Sound lost (within s n) (pagesAt m) t
-  here : All (λ g. Member g (t .pages)) m
-  range : All (λ g. (s ≤ at g) × (at g + t .page ≤ s + n)) m
-  rises : Rises at 0 m
+-- the pages `m`, of `p` bytes each, lie in the range of `n` bytes from `s`
+abbrev InRange : ℕ → ℕ → ℕ → List Pool.Page → Type 0
+InRange p s n m = All (λ g. (s ≤ at g) × (at g + p ≤ s + n)) m
 
 module _ {lost : ℕ → ℕ} {s n : ℕ} {g : Pool.Page} {m : List Pool.Page} {t : Tables} (w : Unmaking lost s n (g ∷ m) t) where
-  abbrev left : List Pool.Page
-  left = without at (at g) (t .pages)
-
-  count : (c : Pool.Page → ℕ) → c g + sum c left ≡ sum c (t .pages)
-  count c = sum-without at c 0 g (t .pages) (w .sound .pagesRise) (w .here .0)
-
-  unmade : Unmaking lost s n m (withPages left t)
-  unmade =
-      record {
-        sound =
-            sound-pages (w .sound) left (all-without at _ (at g) (t .pages) (w .sound .pages)) (rises-without at (at g) 0 (t .pages) (w .sound .pagesRise))
-            (λ x e. omega (arith, count (λ q. equal (q .start .0) x)))
-            (λ h. omega (arith, count (λ q. equal (q .handle .0) h), w .sound .handlesOnce h));
-        here = all-members _ m still;
-        range = w .range .1;
-        rises = rises-below at 0 (at g) m (omega arith) (w .rises .1);
-      }
-    where
-      -- the others start above `g`
-      still : (q : Pool.Page) → Member q m → Member q left
-      still q i =
-          let apart : at q ≡ at g → ⊥ = λ e. omega (arith, member-above at (at g) q m (w .rises .1) i) in
-          without-keeps at (at g) q (t .pages) (member-all _ q m i (w .here .1)) apart
-
   -- the page is a range of its own, in hand
   page-range : WholeRange (t .page) (at g) (t .page)
   page-range =
@@ -106,27 +76,37 @@ module _ {lost : ℕ → ℕ} {s n : ℕ} {g : Pool.Page} {m : List Pool.Page} {
         size = record { positive = w .sound .page; aligned = mod-self (t .page) };
       }
 
-  page-in-hand : (x : ℕ) → within (at g) (t .page) x ≤ within s n x
-  page-in-hand x = within-part (at g) (t .page) s n x (w .range .0 .0) (w .range .0 .1)
+  handle-gone : handlesAt (without at (at g) (t .pages)) (g .handle .0) ≡ 0
+  handle-gone = omega (arith, count-others w (λ q. equal (q .handle .0) (g .handle .0)), w .sound .handlesOnce (g .handle .0), equal-same (g .handle .0))
 
-  -- no table's range lies there, and no other new page
-  page-alone : spansAt t (at g) + pagesAt m (at g) ≡ 0
-  page-alone =
-      omega (
-        arith,
-        sound-once (w .sound) (at g),
-        within-in s n (at g) (w .range .0 .0) (omega (arith, w .range .0 .1, w .sound .page)),
-        rises-once at 0 (at g) (g ∷ m) (w .rises),
-        equal-same (at g),
-      )
+  -- what is mapped still has another handle
+  handle-free : (z : Judge) → Alone z g → All (λ q. q .handle ≡ g .handle .0 → ⊥) (unmapped z (at g) (t .page) .mapped)
+  handle-free z alone = all-members _ (unmapped z (at g) (t .page) .mapped) other
+    where
+      other : (q : Page) → Member q (unmapped z (at g) (t .page) .mapped) → q .handle ≡ g .handle .0 → ⊥
+      other q i e =
+          let f = member-filter (λ (p : Page). not (inside (at g) (t .page) (p .at))) q (z .mapped) i in
+          let here : q .at ≡ at g = member-all _ q (z .mapped) (f .0) alone e in
+          true≢false (sym (inside-self (t .page) (at g) (w .sound .page)) ∙ not-true (inside (at g) (t .page) (at g)) (rw here at (f .1)))
 
-  handle-gone : handlesAt left (g .handle .0) ≡ 0
-  handle-gone = omega (arith, count (λ q. equal (q .handle .0) (g .handle .0)), w .sound .handlesOnce (g .handle .0), equal-same (g .handle .0))
+  module _ (range : InRange (t .page) s n (g ∷ m)) where
+    page-in-hand : (x : ℕ) → within (at g) (t .page) x ≤ within s n x
+    page-in-hand x = within-part (at g) (t .page) s n x (range .0 .0) (range .0 .1)
 
-  module _ {run : Run} {z : Judge} (r : Agreeing run (pagesAt (g ∷ m)) [] t z) where
-    meets-unmap : R4 z (at g) (t .page) ≡ true
+    -- no table's range lies there, and no other new page
+    page-alone : spansAt t (at g) + pagesAt m (at g) ≡ 0
+    page-alone =
+        omega (
+          arith,
+          sound-once (w .sound) (at g),
+          within-in s n (at g) (range .0 .0) (omega (arith, range .0 .1, w .sound .page)),
+          rises-once at 0 (at g) (g ∷ m) (w .rises),
+          equal-same (at g),
+        )
+
+    meets-unmap : {run : Run} {z : Judge} → Agreeing run (pagesAt (g ∷ m)) [] t z → R4 z (at g) (t .page) ≡ true
     unfolding R4
-    meets-unmap =
+    meets-unmap {z = z} r =
         rw (agrees-page r, whole-mapped (t .page) (at g) (t .page) (z .mapped) (w .sound .page) page-range there)
         (none-live (t .page) (at g) (t .page) (z .live) (t .live) (r .buffers) (w .sound .page) (w .sound .live)
         (λ x. omega (arith, page-in-hand x, sound-once (w .sound) x)))
@@ -140,26 +120,18 @@ module _ {lost : ℕ → ℕ} {s n : ℕ} {g : Pool.Page} {m : List Pool.Page} {
               within-in (at g) (t .page) x p q,
             )
 
-    -- what is mapped still has another handle
-    handle-free : Alone z g → All (λ q. q .handle ≡ g .handle .0 → ⊥) (unmapped z (at g) (t .page) .mapped)
-    handle-free alone = all-members _ (unmapped z (at g) (t .page) .mapped) other
-      where
-        other : (q : Page) → Member q (unmapped z (at g) (t .page) .mapped) → q .handle ≡ g .handle .0 → ⊥
-        other q i e =
-            let f = member-filter (λ (p : Page). not (inside (at g) (t .page) (p .at))) q (z .mapped) i in
-            let here : q .at ≡ at g = member-all _ q (z .mapped) (f .0) alone e in
-            true≢false (sym (inside-self (t .page) (at g) (w .sound .page)) ∙ not-true (inside (at g) (t .page) (at g)) (rw here at (f .1)))
-
 module _ {run : Run} (serving : Serving run) where
   -- Tables and judge while the new pages `m` are still to be taken out,
   record RollingBack (lost : ℕ → ℕ) (s n : ℕ) (m : List Pool.Page) (t : Tables) (z : Judge) : Type 0 where
     tables : Unmaking lost s n m t
+    range : InRange (t .page) s n m
     agrees : Agreeing run (pagesAt m) [] t z
     alone : All (Alone z) m
 
   -- and where the handle `h` is still held beside, but on no page, neither an active one nor a mapped one.
   record Loose (lost : ℕ → ℕ) (s n h : ℕ) (m : List Pool.Page) (t : Tables) (z : Judge) : Type 0 where
     tables : Unmaking lost s n m t
+    range : InRange (t .page) s n m
     agrees : Agreeing run (pagesAt m) (h ∷ []) t z
     alone : All (Alone z) m
     active : handlesAt (t .pages) h ≡ 0
@@ -174,14 +146,15 @@ module _ {run : Run} (serving : Serving run) where
         record {
           inside = agrees-inside serving (r .agrees);
           state = unmapped z (at g) (t .page);
-          accepts = rw (agrees-seen serving (r .agrees), meets-unmap w (r .agrees));
+          accepts = rw (agrees-seen serving (r .agrees), meets-unmap w (r .range) (r .agrees));
           holds =
               record {
                 tables = unmade w;
-                agrees = agrees-unmapped g (r .agrees) (w .sound .page) (w .sound .pagesRise) (w .here .0) (λ x e. refl) (page-alone w);
+                range = r .range .1;
+                agrees = agrees-unmapped g (r .agrees) (w .sound .page) (w .sound .pagesRise) (w .here .0) (λ x e. refl) (page-alone w (r .range));
                 alone = all-implies _ _ (λ q a. all-filter _ _ (z .mapped) a) m (r .alone .1);
                 active = handle-gone w;
-                mapped = handle-free w (r .agrees) (r .alone .0);
+                mapped = handle-free w z (r .alone .0);
               };
         }
 
@@ -193,7 +166,7 @@ module _ {run : Run} (serving : Serving run) where
           inside = agrees-inside serving (r .agrees);
           state = released z h;
           accepts = rw (agrees-seen serving (r .agrees), held-some (z .held) h held, under-none h (z .mapped) (r .mapped));
-          holds = record { tables = r .tables; agrees = agrees-released h (r .agrees) (r .active) (r .mapped); alone = r .alone };
+          holds = record { tables = r .tables; range = r .range; agrees = agrees-released h (r .agrees) (r .active) (r .mapped); alone = r .alone };
         }
 
   module _ (lost : ℕ → ℕ) (s n : ℕ) where
@@ -211,40 +184,13 @@ module _ {run : Run} (serving : Serving run) where
     abbrev s : ℕ
     s = o .start
 
-    -- The new pages are those that are in hand: there they are mapped, and nowhere else beside what the tables say.
-    pages-new : (t : Tables) → PagesTo lost p f k s (o .size) a t → (x : ℕ) → x % t .page ≡ 0 →
-        within s (a - s) x ≡ pagesAt (newPages o a (t .pages)) x
-    pages-new t w x e =
-        ⊎-elim
-        (λ q. outside (inl q) (rw (lt-leb s x q)))
-        (λ g. ⊎-elim (inside-hand g) (λ q. outside (inr (omega (arith, w .place .0))) (rw (le-leb s x g, le-ltb x a q))) (cases-lt x a))
-        (cases-lt x s)
-      where
-        new : ℕ → Bool
-        new y = leb s y && ltb y a
-
-        outside : (x < s) ⊎ (s + (a - s) ≤ x) → new x ≡ false → within s (a - s) x ≡ pagesAt (newPages o a (t .pages)) x
-        outside q n = within-out s (a - s) x q ∙ sym (count-dropped at new x (t .pages) n)
-
-        -- no free or live range lies in hand
-        inside-hand : s ≤ x → x < a → within s (a - s) x ≡ pagesAt (newPages o a (t .pages)) x
-        inside-hand g q =
-            let kept = count-kept at new x (t .pages) (rw (le-leb s x g, lt-ltb x a q)) in
-            omega (arith, kept, w .sound .pagesMatch x e, sound-once (w .sound) x, within-in s (o .size) x g (omega (arith, w .fits)))
-
     rollback-begins : (t : Tables) (z : Judge) → PagesTo lost p f k s (o .size) a t × (Agreeing run (within s (a - s)) [] t z × Fresh s a t z) →
         RollingBack lost s (o .size) (newPages o a (t .pages)) t z
     rollback-begins t z (w, (r, fresh)) =
         record {
-          tables =
-              record {
-                sound = sound-bare (w .sound) (pages-new t w);
-                here = all-members _ (newPages o a (t .pages)) (λ g i. member-filter _ g (t .pages) i .0);
-                range = all-members _ (newPages o a (t .pages)) ranged;
-                rises = rises-filter at _ 0 (t .pages) (w .sound .pagesRise);
-              };
-          agrees =
-              agrees-as (pagesAt (newPages o a (t .pages))) r (pages-new t w);
+          tables = unmaking-begins lost p f k o a t w;
+          range = all-members _ (newPages o a (t .pages)) ranged;
+          agrees = agrees-as (pagesAt (newPages o a (t .pages))) r (pages-new lost p f k o a t w);
           alone = all-members _ (newPages o a (t .pages)) alone;
         }
       where

@@ -6,21 +6,21 @@ use mathlib.Core.List.{List, [], _∷_, _++_, map, append-assoc}
 use Prim.Native.Nat.{ℕ, _<_}
 use native.Mathlib.Omega.{arith}
 use native.Mathlib.Decide.{decLe}
-use borrow.Author.Tests.{ne-eqb, ltb-true, not-true}
+use borrow.Author.Tests.{ltb-true, not-true}
 use lib.Dec.{ltb, eqb}
 use Rattle.lists.specs.Tests.{All, every}
 use Rattle.lists.specs.Walks.{joined}
 use Rattle.lists.proofs.Tests.{both, neither, all-implies}
 use Rattle.lists.proofs.Every.{every-all}
 use Rattle.trace.specs.Form.{word, decimal, row, text, textOf, line, printed}
-use Rattle.trace.specs.Reads.{fields, kind, isDigit, value, isNumber, reading}
+use Rattle.trace.specs.Reads.{kind, value, isNumber, reading}
 use Rattle.trace.specs.Lines.{linesOf}
 use Rattle.trace.specs.declared.Line.{Line}
 use Rattle.trace.specs.declared.Reading.the-variants.{Good, Malformed}
 use Rattle.trace.proofs.Cases.{by-test, of-each}
 use Rattle.trace.proofs.Words.{no-word}
-use Rattle.trace.proofs.Numbers.{is-digit, decimal-digits, value-decimal}
-use Rattle.trace.proofs.Fields.{NoTab}
+use Rattle.trace.proofs.Numbers.{value-decimal}
+use Rattle.trace.proofs.Fields.{NoTab, fields-row}
 use Rattle.trace.proofs.Meaning.{never}
 use Rattle.trace.proofs.Feeds.{NoFeed, linesOf-line, row-no-feed}
 
@@ -52,27 +52,6 @@ kind-word k some =
           (omega arith) (omega arith)
       | no h ↦ let none : kind (word k) ≡ 0 = ap kind (no-word k (omega arith)) in absurd (omega arith)
     ]
-
-decimal-no-tab : (n : ℕ) → NoTab (decimal n)
-decimal-no-tab n = every-all isDigit (λ b. eqb b 9 ≡ false) (λ b t. let is = is-digit b t in ne-eqb b 9 (omega arith)) (decimal n) (decimal-digits n)
-
-fields-last : (f : List ℕ) → NoTab f → fields f ≡ f ∷ []
-fields-last [] a = refl
-fields-last (b ∷ f) a = rw (a .0, fields-last f (a .1))
-
-fields-part : (f l : List ℕ) → NoTab f → fields (f ++ (9 ∷ l)) ≡ f ∷ fields l
-fields-part [] l a = refl
-fields-part (b ∷ f) l a = rw (a .0, fields-part f l (a .1))
-
-fields-row : (w : List ℕ) (a b c : ℕ) → NoTab w → fields (row w a b c) ≡ w ∷ decimal a ∷ decimal b ∷ decimal c ∷ []
-unfolding row
-fields-row w a b c h =
-    rw (
-      fields-part w (decimal a ++ (9 ∷ (decimal b ++ (9 ∷ decimal c)))) h,
-      fields-part (decimal a) (decimal b ++ (9 ∷ decimal c)) (decimal-no-tab a),
-      fields-part (decimal b) (decimal c) (decimal-no-tab b),
-      fields-last (decimal c) (decimal-no-tab c),
-    )
 
 -- A line whose text is read as a line is that line.
 text-is : (l m : Line) → reading (textOf l) ≡ Good m → m ≡ l

@@ -2,10 +2,10 @@
 use mathlib.Core.Path.{_≡_}
 use mathlib.Core.Bool.{Bool, true, false}
 use mathlib.Core.List.{List}
-use Prim.Native.Nat.{ℕ, suc, _+_, _-_, _<_}
-use native.Mathlib.Omega.{arith}
+use Prim.Native.Nat.{ℕ, _+_, _-_, _<_}
 use lib.ListN.{getD}
 use Rattle.lists.specs.Places.{swapOut}
+use Rattle.lists.proofs.Tests.{one-more}
 use Rattle.tables.specs.Values.{zombie, withZombies, withHoles}
 use Rattle.tables.specs.InsertHole.{insertHole}
 use Rattle.tables.specs.Steps.{Ending, on, ends}
@@ -16,27 +16,24 @@ use Rattle.tables.specs.declared.Zombie.{Zombie}
 use Rattle.driving.specs.Ran.{Ran, Point, point}
 use Rattle.driving.proofs.Ran.{next, stop, looked, changed}
 
-more : (n : ℕ) → 0 < n → n ≡ suc (n - 1)
-more n h = omega arith
-
 -- the asking ended as `a`
 module _ {xs : List ℕ} {s u : Point} {a : Ending Bool} (n i : ℕ) (h : 0 < n)
     (asked : Ran (isComplete (getD (s .tables .zombies) i (zombie 0 0 0) .id .0)) xs s a u) where
   -- no answer is left for it
   pub walk-out : {o : Outcome} → a ≡ ends o → Ran (walk n i) xs s (ends o) u
-  walk-out p = rw (more n h) (next _ looked (stop _ (rw p at asked)))
+  walk-out p = rw (one-more n h) (next _ looked (stop _ (rw p at asked)))
 
   -- not complete
   pub walk-on : {e : Ending (Unit {0})} {w : Point} → a ≡ on false → Ran (walk (n - 1) (i + 1)) xs u e w → Ran (walk n i) xs s e w
-  walk-on p r = rw (more n h) (next _ looked (next _ (rw p at asked) r))
+  walk-on p r = rw (one-more n h) (next _ looked (next _ (rw p at asked) r))
 
   -- complete, and cleaned, which ended as `f`
   module _ {f : Ending (Unit {0})} {v : Point} (p : a ≡ on true) (cleaned : Ran (clean i (getD (s .tables .zombies) i (zombie 0 0 0))) xs u f v) where
     pub walk-clean : {e : Ending (Unit {0})} {w : Point} → f ≡ on tt → Ran (walk (n - 1) i) xs v e w → Ran (walk n i) xs s e w
-    walk-clean q r = rw (more n h) (next _ looked (next _ (rw p at asked) (next _ (rw q at cleaned) r)))
+    walk-clean q r = rw (one-more n h) (next _ looked (next _ (rw p at asked) (next _ (rw q at cleaned) r)))
 
     pub walk-stop : {o : Outcome} → f ≡ ends o → Ran (walk n i) xs s f v
-    walk-stop q = rw (more n h, q) (next _ looked (next _ (rw p at asked) (stop _ (rw q at cleaned))))
+    walk-stop q = rw (one-more n h, q) (next _ looked (next _ (rw p at asked) (stop _ (rw q at cleaned))))
 
 -- the unmap went on, or its answer was missing: `e` is how it ended
 module _ {xs : List ℕ} {s v : Point} {e : Ending (Unit {0})} (i : ℕ) (z : Zombie)

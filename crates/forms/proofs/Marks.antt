@@ -1,6 +1,6 @@
 -- Marks by remainder: a number whose place has no mark is none of those that left one; one that is found among them is twice. Assumes nothing.
 use mathlib.Core.Path.{_≡_, refl, ap, _∙_}
-use mathlib.Core.Bool.{Bool, true, false, _&&_, not}
+use mathlib.Core.Bool.{Bool, true, false, not, and-false}
 use mathlib.Core.List.{List, [], _∷_}
 use Prim.Native.Nat.{ℕ, zero, suc, _+_, _-_, _≤_, _<_, _%_}
 use native.Mathlib.Omega.{arith}
@@ -54,10 +54,6 @@ among-last : (i : ℕ) (l : List ℕ) → distinct (drop i l) ≡ false → dist
 among-last zero l e = e
 among-last (suc i) [] e = e
 among-last (suc i) (x ∷ l) e = rw (among-last i l e) (and-false (every (λ y. not (eqb x y)) l))
-  where
-    and-false : (b : Bool) → (b && false) ≡ false
-    and-false true = refl
-    and-false false = refl
 
 pub found-again : (l : List ℕ) (i : ℕ) → 0 < i → i ≤ length l → every (λ y. not (eqb (getD l (i - 1) 0) y)) (drop i l) ≡ false → distinct l ≡ false
 found-again l i s n e =

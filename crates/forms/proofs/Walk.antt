@@ -13,6 +13,7 @@ use Rattle.lists.specs.Tests.{All}
 use Rattle.lists.specs.Order.{put, sorted, Ascends}
 use Rattle.lists.proofs.Tests.{all-implies, all-append, cases-lt, cases-eq}
 use Rattle.lists.proofs.Order.{put-first, sorted-ascends, all-sorted}
+use Rattle.lists.proofs.Pairs.{ascends-above}
 use Rattle.lists.proofs.Copies.{turn-map, ends-map}
 use Rattle.tables.specs.Values.{freeOf, liveOf, holesOf, zombiesOf}
 use Rattle.tables.specs.WellFormed.{Range}
@@ -72,11 +73,6 @@ module _ {A : Type 0} (key : A → ℕ) where
   ascends-from : (b c : ℕ) (l : List A) → Ascends key c l → All (λ x. b ≤ key x) l → Ascends key b l
   ascends-from b c [] a h = tt
   ascends-from b c (x ∷ l) a h = (h .0, a .1)
-
-  pub ascends-above : (b : ℕ) (l : List A) → Ascends key b l → All (λ x. b ≤ key x) l
-  ascends-above b [] a = tt
-  ascends-above b (x ∷ l) a =
-      (a .0, all-implies (λ y. key x ≤ key y) (λ y. b ≤ key y) (λ y p. omega (arith, a .0)) l (ascends-above (key x) l (a .1)))
 
   -- the least of all, and the first of equal ones, comes first
   pub comes-first : (y : A) (l m : List A) → All (λ x. key y < key x) l → All (λ x. key y ≤ key x) m → sorted key (l ++ y ∷ m) ≡ y ∷ sorted key (l ++ m)

@@ -1,6 +1,6 @@
 -- The ways of the rules: the prefix handed over, and each of the four refusals passed or taken in order. Assumes nothing.
-use mathlib.Core.Path.{_≡_, refl}
-use mathlib.Core.Bool.{Bool, true, false, _&&_, _||_}
+use mathlib.Core.Path.{_≡_}
+use mathlib.Core.Bool.{Bool, true, false, _&&_, _||_, and-false}
 use mathlib.Core.List.{List}
 use mathlib.Core.Option.{some, none}
 use Prim.Native.Nat.{ℕ, _+_, _/_, _≤_, _<_}
@@ -20,10 +20,6 @@ use Rattle.tables.specs.declared.Outcome.{Outcome}
 use Rattle.tables.specs.declared.Outcome.the-variants.{Allocated, RequestedExceedsVa, PagesFull, ZombiesFull, RootsFull}
 use Rattle.driving.specs.Ran.{Ran, Point, point}
 use Rattle.driving.proofs.Ran.{next, stop, gave, ended, looked, changed, taken, passed}
-
-and-false : (a : Bool) → (a && false) ≡ false
-and-false true = refl
-and-false false = refl
 
 -- zombies and free regions, and the test for 10
 abbrev pulled : Tables → ℕ

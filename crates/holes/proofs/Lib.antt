@@ -1,7 +1,6 @@
 pub mod Store
 pub mod Replaced
 pub mod Cell
-pub mod Apart
 pub mod Insert
 pub mod Joins
 pub mod Full

@@ -1,6 +1,6 @@
 -- A line's step by its kind: R0, then what a call line, a record or a result does to the state. Assumes nothing.
-use mathlib.Core.Path.{_≡_, refl, ap, _∙_}
-use mathlib.Core.Bool.{Bool, true, false, _&&_, _||_, not}
+use mathlib.Core.Path.{_≡_, refl, sym, ap, _∙_}
+use mathlib.Core.Bool.{Bool, true, false, _&&_, _||_, not, and-true, and-false}
 use mathlib.Core.Logic.{_⊎_, inl, inr}
 use mathlib.Core.List.{List, [], _∷_}
 use Prim.Native.Nat.{ℕ, zero, suc, _+_, _≤_, _<_}
@@ -31,11 +31,7 @@ r0-call Close r l = refl
 
 r0-unknown : (r : Run) (l : Line) → R0 Unknown r l ≡ false
 unfolding R0
-r0-unknown r l = go (r .opened)
-  where
-    go : (b : Bool) → (b && false) ≡ false
-    go true = refl
-    go false = refl
+r0-unknown r l = and-false (r .opened)
 
 -- the tests of a record and of a result
 abbrev pub inRun : Run → Bool
@@ -117,26 +113,18 @@ module _ (s : State) (a h m b : List ℕ) (l : Line) where
   ready-told t r q w e p x y = rw (q, w) (p (both (s .run .opened) _ e .0), (x, y))
 
 -- R0 of a call line, by the code's tests
-and-false : (x : Bool) → false ≡ (x && false)
-and-false true = refl
-and-false false = refl
-
-and-true : (x : Bool) → x ≡ (x && true)
-and-true true = refl
-and-true false = refl
-
 module _ (r : Run) (first : ℕ) where
   pub starts-waiting : (c : Call) → r .waiting ≡ true → false ≡ startsRun c r first
-  starts-waiting c e = rw e (and-false (ifOpen c (not (r .opened) && not (eqb first 0)) (r .opened)))
+  starts-waiting c e = rw e (sym (and-false (ifOpen c (not (r .opened) && not (eqb first 0)) (r .opened))))
 
   pub starts-again : r .opened ≡ true → false ≡ startsRun Open r first
   starts-again e = rw e
 
   pub starts-first : r .waiting ≡ false → r .opened ≡ false → not (eqb first 0) ≡ startsRun Open r first
-  starts-first e f = rw (e, f) (and-true (not (eqb first 0)))
+  starts-first e f = rw (e, f) (sym (and-true (not (eqb first 0))))
 
   pub starts-other : r .waiting ≡ false → r .opened ≡ (r .opened && not (r .waiting))
-  starts-other e = rw e (and-true (r .opened))
+  starts-other e = rw e (sym (and-true (r .opened)))
 
 -- a number that is no kind
 past : {A : Type 0} (l : List A) (i : ℕ) (d : A) → length l ≤ i → d ≡ getD l i d

@@ -19,6 +19,7 @@ use Rattle.tables.specs.Values.{hole}
 use Rattle.tables.specs.InsertHole.{from, upto, glue, insertRange, insertHole, Apart}
 use Rattle.tables.specs.TakeRange.{smallestHole, cutHole}
 use Rattle.tables.specs.declared.Hole.{Hole}
+use Rattle.tables.proofs.Apart.{apart-below}
 use Rattle.keeping.specs.Cover.{within, coverHoles}
 use Rattle.keeping.specs.Sound.{Whole, WholeRange}
 use Rattle.keeping.proofs.Cover.{within-join, within-cut, within-in, within-out}
@@ -262,10 +263,6 @@ cover-cutHole n b m h (k ∷ l) x w (inl e) p = rw (← e, eq-eqb (from h) (from
 cover-cutHole n b m h (k ∷ l) x w (inr i) p =
     let apart : from k ≡ from h → ⊥ = λ e. omega (arith, member-above from (upto k) h l (apart-rises (upto k) m l (w .1 .1)) i) in
     rw (ne-eqb (from k) (from h) apart) (omega (arith, cover-cutHole n (upto k) m h l x (w .1 .1) i p))
-
-apart-below : (c b m : ℕ) (l : List Hole) → c ≤ b → Apart b m l → Apart c m l
-apart-below c b m [] p w = omega arith
-apart-below c b m (h ∷ l) p w = (omega arith, w .1)
 
 pub apart-cutHole : (n b m : ℕ) (h : Hole) (l : List Hole) → Apart b m l → Member h l → n ≤ h .size → Apart b m (cutHole n (from h) l)
 unfolding cutHole

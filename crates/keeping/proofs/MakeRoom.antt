@@ -45,7 +45,8 @@ pub record Roomed (lost : ℕ → ℕ) (f n s : ℕ) (r : FreeRegion) (t : Table
   pub few : Few 0 128 t
   pub room : (r .size ≡ n) ⊎ (length (t .free) + length (t .live) ≤ 127)
 
-filled-roomed : (lost : ℕ → ℕ) (f n s d : ℕ) (r : FreeRegion) (t : Tables) → Dropped f n d → Filled lost n s d r t → Roomed lost f n s r t
+-- what is dropped, within its bound
+pub filled-roomed : (lost : ℕ → ℕ) (f n s d : ℕ) (r : FreeRegion) (t : Tables) → Dropped f n d → Filled lost n s d r t → Roomed lost f n s r t
 filled-roomed lost f n s d r t h w =
     record {
       dropped = (w .dropped, d);
@@ -59,6 +60,13 @@ filled-roomed lost f n s d r t h w =
       room = w .room;
     }
 
+-- what the new region has past the missing pages was free before
+pub newly-dropped : (lost : ℕ → ℕ) (p f : ℕ) (o : Room) → Measured p f o → (r : FreeRegion) (t : Tables) → Newly lost p f o r t →
+    Dropped f (o .size) (r .size - o .missing)
+newly-dropped lost p f o g r t w =
+    let most = newly-most lost p f o g r t w in
+    record { most = omega (arith, g .rest); enough = λ h. absurd (omega (arith, g .rest, w .least .0)) }
+
 fills : (lost : ℕ → ℕ) (p f : ℕ) (o : Room) → Measured p f o → (x : Option FreeRegion) →
     Holds (Ready lost p f o x) (fill o x) (Roomed lost f (o .size) (o .stream)) (Left lost)
 fills lost p f o g none =
@@ -68,12 +76,7 @@ fills lost p f o g none =
 fills lost p f o g (some r) =
     holds-named (λ u w.
     holds-from (λ t e. rw e w)
-    (holds-to (λ q t. filled-roomed lost f (o .size) (o .stream) (r .size - o .missing) q t (dropped u w)) (fills-rest lost p f o g r)))
-  where
-    dropped : (u : Tables) → Newly lost p f o r u → Dropped f (o .size) (r .size - o .missing)
-    dropped u w =
-        let most = newly-most lost p f o g r u w in
-        record { most = omega (arith, g .rest); enough = λ h. absurd (omega (arith, g .rest, w .least .0)) }
+    (holds-to (λ q t. filled-roomed lost f (o .size) (o .stream) (r .size - o .missing) q t (newly-dropped lost p f o g r u w)) (fills-rest lost p f o g r)))
 
 -- the free regions are of whole pages, and so is what is missing
 pub aligned-missing : (lost : ℕ → ℕ) (p f k n : ℕ) (t : Tables) → TakesFrom lost p f k n t → (n - f) % p ≡ 0

@@ -36,14 +36,14 @@ use Rattle.keeping.proofs.PageStarts.{whole-startsOf, length-startsOf, 
 use Rattle.keeping.proofs.Holds.{holds-known, holds-from, holds-to, holds-given, holds-then, holds-give, holds-looked}
 
 -- the handle of the page that starts there
-handleAt-is : (b : ℕ) (g : Page) (l : List Page) → Rises at b l → Member g l → handleAt (at g) l ≡ g .handle .0
+pub handleAt-is : (b : ℕ) (g : Page) (l : List Page) → Rises at b l → Member g l → handleAt (at g) l ≡ g .handle .0
 handleAt-is b g (k ∷ l) r (inl e) = rw (← e, eq-eqb (at g) (at g) refl)
 handleAt-is b g (k ∷ l) r (inr m) =
     let apart : at k ≡ at g → ⊥ = λ e. omega (arith, member-above at (at k) g l (r .1) m) in
     rw (ne-eqb (at k) (at g) apart) (handleAt-is (at k) g l (r .1) m)
 
 -- the tables without the page at `b`, and with it at `a`
-abbrev unpaged : ℕ → Tables → Tables
+abbrev pub unpaged : ℕ → Tables → Tables
 unpaged b t = withPages (without at b (t .pages)) t
 
 abbrev moved : ℕ → ℕ → Tables → Tables

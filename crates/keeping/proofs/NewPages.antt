@@ -73,13 +73,17 @@ pub holds-mapPage : (a h : ℕ) {P : Tables → Type 0} {E : Outcome → Tables 
 unfolding mapPage
 holds-mapPage a h {P} Q short fails put = holds-then (λ _. P) (holds-must (drives-map a h) short fails) (λ _. holds-change _ put)
 
--- While a rollback goes on: the new pages `m` are still to be taken out.
-record Unmaking (lost : ℕ → ℕ) (p f k s n : ℕ) (m : List Page) (t : Tables) : Type 0 where
+-- While a rollback goes on: the range from `s` is in hand, and the new pages `m` in it are still to be taken out,
+pub record Unmaking (lost : ℕ → ℕ) (s n : ℕ) (m : List Page) (t : Tables) : Type 0 where
   pub sound : Sound lost (within s n) (pagesAt m) t
-  pub start : Whole (t .page) s
-  pub size : Whole (t .page) n
   pub here : All (λ g. Member g (t .pages)) m
   pub rises : Rises at 0 m
+
+-- and there is room for the hole that the range becomes.
+record RollingBack (lost : ℕ → ℕ) (p f k s n : ℕ) (m : List Page) (t : Tables) : Type 0 where
+  pub pages : Unmaking lost s n m t
+  pub start : Whole (t .page) s
+  pub size : Whole (t .page) n
   pub making : Making p f k s n t
 
 -- While pages are made the ceilings hold, whatever ends the call.
@@ -100,42 +104,83 @@ pages-bare : {lost bare : ℕ → ℕ} {t : Tables} (s n : ℕ) → Sound lost (
     pagesAt (t .pages) x ≡ bare x
 pages-bare s n w x e p q = omega (arith, w .pagesMatch x e, sound-once w x, within-in s n x p q)
 
-module _ (lost : ℕ → ℕ) (p f : ℕ) where
-  unmade : (k s n : ℕ) (g : Page) (m : List Page) (t : Tables) → Unmaking lost p f k s n (g ∷ m) t →
-      Unmaking lost p f k s n m (withPages (without at (at g) (t .pages)) t)
-  unmade k s n g m t w =
-      let l = without at (at g) (t .pages) in
-      let count : (c : Page → ℕ) → c g + sum c l ≡ sum c (t .pages) = λ c. sum-without at c 0 g (t .pages) (w .sound .pagesRise) (w .here .0) in
+module _ {lost : ℕ → ℕ} {s n : ℕ} {g : Page} {m : List Page} {t : Tables} (w : Unmaking lost s n (g ∷ m) t) where
+  abbrev left : List Page
+  left = without at (at g) (t .pages)
+
+  -- the others, as a count has them
+  pub count-others : (c : Page → ℕ) → c g + sum c left ≡ sum c (t .pages)
+  count-others c = sum-without at c 0 g (t .pages) (w .sound .pagesRise) (w .here .0)
+
+  -- a page is taken out
+  pub unmade : Unmaking lost s n m (withPages left t)
+  unmade =
       record {
         sound =
-            sound-pages (w .sound) l (all-without at _ (at g) (t .pages) (w .sound .pages)) (rises-without at (at g) 0 (t .pages) (w .sound .pagesRise))
-            (λ x e. omega (arith, count (λ q. equal (q .start .0) x)))
-            (λ h. omega (arith, count (λ q. equal (q .handle .0) h), w .sound .handlesOnce h));
-        start = w .start;
-        size = w .size;
+            sound-pages (w .sound) left (all-without at _ (at g) (t .pages) (w .sound .pages)) (rises-without at (at g) 0 (t .pages) (w .sound .pagesRise))
+            (λ x e. omega (arith, count-others (λ q. equal (q .start .0) x)))
+            (λ h. omega (arith, count-others (λ q. equal (q .handle .0) h), w .sound .handlesOnce h));
         here = all-members _ m still;
         rises = rises-below at 0 (at g) m (omega arith) (w .rises .1);
-        making = making-pages k l (omega (arith, length-without at 0 g (t .pages) (w .sound .pagesRise) (w .here .0), w .making .few .pages)) (w .making);
       }
     where
       -- the others start above `g`
-      still : (q : Page) → Member q m → Member q (without at (at g) (t .pages))
+      still : (q : Page) → Member q m → Member q left
       still q i =
           let apart : at q ≡ at g → ⊥ = λ e. omega (arith, member-above at (at g) q m (w .rises .1) i) in
           without-keeps at (at g) q (t .pages) (member-all _ q m i (w .here .1)) apart
 
+-- One more page is to be made, the one at `a`.
+module _ {lost : ℕ → ℕ} {p f k s n a : ℕ} {t : Tables} (w : PagesTo lost p f (suc k) s n a t) where
+  pub next-whole : Whole (t .page) a
+  next-whole =
+      let e : s + (a - s) ≡ a = omega (arith, w .place .0) in
+      rw e at (whole-past (a - s) (w .start) (w .place .1))
+
+  next-room : a + p + k * p ≤ s + n
+  next-room = omega (arith, w .fits, suc-mul k p)
+
+  next-ends : a + p - s ≡ a - s + p
+  next-ends = omega (arith, w .place .0)
+
+  pub within-next : (x : ℕ) → x % t .page ≡ 0 → within s (a + p - s) x ≡ within s (a - s) x + equal a x
+  within-next x e =
+      let q : t .page ≡ p = w .making .known .page in
+      let b : s + (a - s) ≡ a = omega (arith, w .place .0) in
+      let j : within s (a - s + p) x ≡ within s (a - s) x + within a p x = rw b at (within-join s (a - s) p x) in
+      rw next-ends (j ∙ rw (within-page p a x (rw q at (w .sound .page)) (rw q at (next-whole .aligned)) (rw q at e)))
+
+  -- no page starts there yet
+  pub next-none : pagesAt (t .pages) a ≡ 0
+  next-none =
+      let g : 0 < p = omega (arith, w .sound .page, w .making .known .page) in
+      pages-bare s n (w .sound) a (next-whole .aligned) (w .place .0) (omega (arith, next-room)) ∙ within-out s (a - s) a (inr (omega (arith, w .place .0)))
+
+module _ (lost : ℕ → ℕ) (p f : ℕ) where
+  rolls-on : (k s n : ℕ) (g : Page) (m : List Page) (t : Tables) → RollingBack lost p f k s n (g ∷ m) t →
+      RollingBack lost p f k s n m (withPages (without at (at g) (t .pages)) t)
+  rolls-on k s n g m t w =
+      let u = w .pages in
+      let fewer = length-without at 0 g (t .pages) (u .sound .pagesRise) (u .here .0) in
+      record {
+        pages = unmade u;
+        start = w .start;
+        size = w .size;
+        making = making-pages k (without at (at g) (t .pages)) (omega (arith, fewer, w .making .few .pages)) (w .making);
+      }
+
   unmakes : (k s n : ℕ) (g : Page) (m : List Page) →
-      Holds (Unmaking lost p f k s n (g ∷ m)) (unmake g) (λ _. Unmaking lost p f k s n m) (Left lost)
+      Holds (RollingBack lost p f k s n (g ∷ m)) (unmake g) (λ _. RollingBack lost p f k s n m) (Left lost)
   unfolding unmake
   unmakes k s n g m =
       holds-looked (λ u w.
       holds-from (λ t e. rw e w)
-      (holds-then (λ _. Unmaking lost p f k s n (g ∷ m)) (holds-try (drives-unmap (at g) (u .page)) (λ t _. tt)) (λ _.
-      holds-then (λ _. Unmaking lost p f k s n m) (holds-change _ (unmade k s n g m)) (λ _.
+      (holds-then (λ _. RollingBack lost p f k s n (g ∷ m)) (holds-try (drives-unmap (at g) (u .page)) (λ t _. tt)) (λ _.
+      holds-then (λ _. RollingBack lost p f k s n m) (holds-change _ (rolls-on k s n g m)) (λ _.
       holds-try (drives-release (g .handle .0)) (λ t _. tt)))))
 
   -- The new pages are those that are bare.
-  pages-new : (k : ℕ) (o : Room) (a : ℕ) (t : Tables) → PagesTo lost p f k (o .start) (o .size) a t → (x : ℕ) → x % t .page ≡ 0 →
+  pub pages-new : (k : ℕ) (o : Room) (a : ℕ) (t : Tables) → PagesTo lost p f k (o .start) (o .size) a t → (x : ℕ) → x % t .page ≡ 0 →
       within (o .start) (a - o .start) x ≡ pagesAt (newPages o a (t .pages)) x
   pages-new k o a t w x e =
       ⊎-elim
@@ -155,22 +200,24 @@ module _ (lost : ℕ → ℕ) (p f : ℕ) where
       inside : s ≤ x → x < a → within s (a - s) x ≡ pagesAt (newPages o a (t .pages)) x
       inside g q = sym (count-kept at new x (t .pages) (rw (le-leb s x g, lt-ltb x a q)) ∙ pages-bare s (o .size) (w .sound) x e g (omega (arith, w .fits)))
 
-  rollback-begins : (k : ℕ) (o : Room) (a : ℕ) (t : Tables) → PagesTo lost p f k (o .start) (o .size) a t →
-      Unmaking lost p f k (o .start) (o .size) (newPages o a (t .pages)) t
-  rollback-begins k o a t w =
+  pub unmaking-begins : (k : ℕ) (o : Room) (a : ℕ) (t : Tables) → PagesTo lost p f k (o .start) (o .size) a t →
+      Unmaking lost (o .start) (o .size) (newPages o a (t .pages)) t
+  unmaking-begins k o a t w =
       record {
         sound = sound-bare (w .sound) (pages-new k o a t w);
-        start = w .start;
-        size = w .size;
         here = all-members _ (newPages o a (t .pages)) (λ g i. member-filter _ g (t .pages) i .0);
         rises = rises-filter at _ 0 (t .pages) (w .sound .pagesRise);
-        making = w .making;
       }
 
-  rollback-ends : (k s n : ℕ) (t : Tables) → Unmaking lost p f k s n [] t → Kept lost (withHoles (insertHole s n (t .holes)) t)
+  rollback-begins : (k : ℕ) (o : Room) (a : ℕ) (t : Tables) → PagesTo lost p f k (o .start) (o .size) a t →
+      RollingBack lost p f k (o .start) (o .size) (newPages o a (t .pages)) t
+  rollback-begins k o a t w =
+      record { pages = unmaking-begins k o a t w; start = w .start; size = w .size; making = w .making }
+
+  rollback-ends : (k s n : ℕ) (t : Tables) → RollingBack lost p f k s n [] t → Kept lost (withHoles (insertHole s n (t .holes)) t)
   rollback-ends k s n t w =
       record {
-        sound = sound-hole (w .sound) s n (λ x. omega arith) (λ _. record { start = w .start; size = w .size });
+        sound = sound-hole (w .pages .sound) s n (λ x. omega arith) (λ _. record { start = w .start; size = w .size });
         ceilings =
             record {
               pages = omega (arith, w .making .few .pages);
@@ -187,8 +234,8 @@ module _ (lost : ℕ → ℕ) (p f : ℕ) where
   rolls-back k o a =
       holds-looked (λ u w.
       holds-from (λ t e. rw e (rollback-begins k o a u w))
-      (holds-then (λ _. Unmaking lost p f k (o .start) (o .size) [])
-      (holds-each (Unmaking lost p f k (o .start) (o .size)) (unmakes k (o .start) (o .size)) (newPages o a (u .pages))) (λ _.
+      (holds-then (λ _. RollingBack lost p f k (o .start) (o .size) [])
+      (holds-each (RollingBack lost p f k (o .start) (o .size)) (unmakes k (o .start) (o .size)) (newPages o a (u .pages))) (λ _.
       holds-then (λ _. Kept lost) (holds-change _ (rollback-ends k (o .start) (o .size))) (λ _.
       holds-end (OutOfMemory (o .missing) (a - o .start))))))
 
@@ -207,31 +254,6 @@ module _ (lost : ℕ → ℕ) (p f : ℕ) where
       (holds-endIf (isActive (valueOf x) (u .pages)) Incredible (λ t e _. ceilings t e)))))
 
   module _ (k s n a h : ℕ) (t : Tables) (w : PagesTo lost p f (suc k) s n a t) (fresh : handlesAt (t .pages) h ≡ 0) where
-    here : Whole (t .page) a
-    here =
-        let e : s + (a - s) ≡ a = omega (arith, w .place .0) in
-        rw e at (whole-past (a - s) (w .start) (w .place .1))
-
-    room : a + p + k * p ≤ s + n
-    room = omega (arith, w .fits, suc-mul k p)
-
-    -- one more page is made: the one at `a`
-    next : a + p - s ≡ a - s + p
-    next = omega (arith, w .place .0)
-
-    added : (x : ℕ) → x % t .page ≡ 0 → within s (a + p - s) x ≡ within s (a - s) x + equal a x
-    added x e =
-        let q : t .page ≡ p = w .making .known .page in
-        let b : s + (a - s) ≡ a = omega (arith, w .place .0) in
-        let j : within s (a - s + p) x ≡ within s (a - s) x + within a p x = rw b at (within-join s (a - s) p x) in
-        rw next (j ∙ rw (within-page p a x (rw q at (w .sound .page)) (rw q at (here .aligned)) (rw q at e)))
-
-    -- no page starts at `a` yet
-    unmapped : pagesAt (t .pages) a ≡ 0
-    unmapped =
-        let g : 0 < p = omega (arith, w .sound .page, w .making .known .page) in
-        pages-bare s n (w .sound) a (here .aligned) (w .place .0) (omega (arith, room)) ∙ within-out s (a - s) a (inr (omega (arith, w .place .0)))
-
     handles-once : (i : ℕ) → equal h i + handlesAt (t .pages) i ≤ 1
     handles-once i =
         ⊎-elim
@@ -245,14 +267,14 @@ module _ (lost : ℕ → ℕ) (p f : ℕ) where
         let q : t .page ≡ p = w .making .known .page in
         record {
           sound =
-              sound-pages (w .sound) l (all-put at _ (page a h) (t .pages) here (w .sound .pages))
-              (rises-put at 0 (page a h) (t .pages) (here .positive) (none-counted at a (t .pages) unmapped) (w .sound .pagesRise))
-              (λ x e. omega (arith, sum-put at (λ (g : Page). equal (g .start .0) x) (page a h) (t .pages), added x e))
+              sound-pages (w .sound) l (all-put at _ (page a h) (t .pages) (next-whole w) (w .sound .pages))
+              (rises-put at 0 (page a h) (t .pages) (next-whole w .positive) (none-counted at a (t .pages) (next-none w)) (w .sound .pagesRise))
+              (λ x e. omega (arith, sum-put at (λ (g : Page). equal (g .start .0) x) (page a h) (t .pages), within-next w x e))
               (λ i. omega (arith, sum-put at (λ (g : Page). equal (g .handle .0) i) (page a h) (t .pages), handles-once i));
           start = w .start;
           size = w .size;
-          place = (omega (arith, w .place .0), rw next (aligned-add (t .page) (a - s) p (w .place .1) (rw q (mod-self p))));
-          fits = room;
+          place = (omega (arith, w .place .0), rw (next-ends w) (aligned-add (t .page) (a - s) p (w .place .1) (rw q (mod-self p))));
+          fits = next-room w;
           making = making-pages k l (omega (arith, length-put at (page a h) (t .pages), w .making .few .pages)) (w .making);
         }
 

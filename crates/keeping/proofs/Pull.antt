@@ -34,13 +34,13 @@ use Rattle.keeping.proofs.Rest.{cover-putRest, ids-putRest, length-putR
 use Rattle.keeping.proofs.Holds.{holds-from, holds-given, holds-then, holds-give, holds-change, holds-cond, holds-must, holds-isComplete, drives-wait}
 
 -- the tables without the region `r`, and with the first `n` bytes of it as a zombie and its rest put back
-abbrev outOf : FreeRegion → Tables → Tables
+abbrev pub outOf : FreeRegion → Tables → Tables
 outOf r t = withFree (withoutFree (from r) (t .free)) t
 
 abbrev pub part : ℕ → FreeRegion → Zombie
 part n r = zombie (from r) n (r .id .0)
 
-abbrev pulled : ℕ → FreeRegion → Tables → Tables
+abbrev pub pulled : ℕ → FreeRegion → Tables → Tables
 pulled n r t = withFree (putRest n r (withoutFree (from r) (t .free))) (withZombies (t .zombies ++ part n r ∷ []) t)
 
 module _ (lost hand bare : ℕ → ℕ) (t : Tables) (w : Sound lost hand bare t) (r : FreeRegion) (m : Member r (t .free)) where

@@ -57,7 +57,8 @@ module _ {A : Type 0} (key : A → ℕ) where
   rises-same b x y (z ∷ l) r (inr m) (inl q) e = absurd (let a : key z < key x = member-above key (key z) x l (r .1) m in omega (arith, ap key q))
   rises-same b x y (z ∷ l) r (inr m) (inr n) e = rises-same (key z) x y l (r .1) m n e
 
-  rises-at : (b : ℕ) (l : List A) (i : ℕ) (d : A) → Rises key b l → i < length l → b < key (getD l i d)
+  -- each key is above the bound
+  pub rises-at : (b : ℕ) (l : List A) (i : ℕ) (d : A) → Rises key b l → i < length l → b < key (getD l i d)
   rises-at b [] i d r h = absurd (omega arith)
   rises-at b (x ∷ l) zero d r h = r .0
   rises-at b (x ∷ l) (suc i) d r h = omega (arith, r .0, rises-at (key x) l i d (r .1) (le-of-suc-le-suc h))

@@ -58,7 +58,7 @@ module _ {ℓ ℓ′} {A : Type ℓ} {B : Type ℓ′} (f : A → B) where
   pairs-unmap R (x ∷ l) r = (all-unmap f (R (f x)) l (r .0), pairs-unmap R l (r .1))
 
 module _ {ℓ} {A : Type ℓ} (key : A → ℕ) where
-  ascends-above : (b : ℕ) (l : List A) → Ascends key b l → All (λ x. b ≤ key x) l
+  pub ascends-above : (b : ℕ) (l : List A) → Ascends key b l → All (λ x. b ≤ key x) l
   ascends-above b [] a = tt
   ascends-above b (x ∷ l) a =
       (a .0, all-implies (λ y. key x ≤ key y) (λ y. b ≤ key y) (λ y p. omega (arith, a .0)) l (ascends-above (key x) l (a .1)))

@@ -3,7 +3,7 @@ use mathlib.Core.Path.{_≡_, refl, _∙_, sym}
 use mathlib.Core.Logic.{_⊎_, inl, inr}
 use mathlib.Core.Bool.{Bool, true, false, cond, _&&_, _||_, false≢true}
 use mathlib.Core.List.{List, [], _∷_, _++_, map}
-use Prim.Native.Nat.{ℕ, zero, suc, _≤_, _<_}
+use Prim.Native.Nat.{ℕ, zero, suc, _-_, _≤_, _<_}
 use native.Mathlib.Omega.{arith}
 use native.Mathlib.Nat.{le-of-suc-le-suc}
 use native.Mathlib.Decide.{decLt, ℕ-discrete}
@@ -26,6 +26,10 @@ cases-lt a b = elim (decLt a b) [ yes p ↦ inl p | no q ↦ inr (omega arith) ]
 
 pub cases-eq : (a b : ℕ) → (a ≡ b) ⊎ (a ≡ b → ⊥)
 cases-eq a b = elim (ℕ-discrete a b) [ yes p ↦ inl p | no q ↦ inr q ]
+
+-- a count that is not yet none, for a walk that goes by it
+pub one-more : (n : ℕ) → 0 < n → n ≡ suc (n - 1)
+one-more n h = omega arith
 
 pub both : (a b : Bool) → (a && b) ≡ true → (a ≡ true) × (b ≡ true)
 both true b e = (refl, e)

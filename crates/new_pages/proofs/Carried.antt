@@ -5,6 +5,7 @@ use mathlib.Core.List.{List}
 use Prim.Native.Nat.{ℕ, suc, _+_, _-_, _<_}
 use Rattle.words.specs.declared.Answer.the-variants.{Done}
 use Rattle.lists.specs.Order.{put}
+use Rattle.lists.proofs.Tests.{one-more}
 use Rattle.tables.specs.Values.{page}
 use Rattle.tables.specs.Steps.{on}
 use Rattle.tables.specs.NewPages.{Room, at, created, mapPage}
@@ -15,7 +16,6 @@ use Rattle.keeping.specs.Holds.{Holds}
 use Rattle.keeping.specs.MakeRoom.{PagesTo}
 use Rattle.keeping.proofs.Holds.{holds-then, holds-must, holds-change, drives-map}
 use Rattle.keeping.proofs.NewPages.{checks-created, maps-page}
-use Rattle.new_pages.proofs.Turns.{one-more}
 
 -- one page fewer to make, where a new handle was mapped
 pub page-made : {xs : List ℕ} {s u : Point} (lost : ℕ → ℕ) (p f n : ℕ) (o : Room) (a g : ℕ) → 0 < n →

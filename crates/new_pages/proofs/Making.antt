@@ -5,6 +5,7 @@ use Prim.Native.Nat.{ℕ, suc, _+_, _-_, _*_, _≤_, _<_, _^_}
 use native.Mathlib.Omega.{arith}
 use native.Mathlib.Nat.{suc-mul}
 use lib.ListN.{length}
+use Rattle.lists.proofs.Tests.{one-more}
 use Rattle.tables.specs.Values.{Tables, page, pagesOf}
 use Rattle.tables.specs.Kept.{KeptHoles, KeptPages}
 use Rattle.tables.specs.Steps.{Ending, on, ends}
@@ -18,7 +19,6 @@ use Rattle.keeping.specs.MakeRoom.{PagesTo}
 use Rattle.keeping.proofs.Sounds.{sound-range}
 use Rattle.new_pages.specs.Promises.{roomOf, paging, stoppedAt, Ready, MakesPages}
 use Rattle.new_pages.specs.declared.Room.{Room}
-use Rattle.new_pages.proofs.Turns.{one-more}
 use Rattle.new_pages.proofs.Carried.{page-put}
 use Rattle.new_pages.proofs.Counted.{held, held-put, new-held, none-held}
 

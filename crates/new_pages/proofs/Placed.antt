@@ -14,6 +14,7 @@ use Rattle.lists.specs.Places.{place, removeAt}
 use Rattle.lists.specs.Order.{put, Rises}
 use Rattle.lists.proofs.Places.{shift-up, take-removeAt, length-insertAt, place-le}
 use Rattle.lists.proofs.Order.{put-is}
+use Rattle.lists.proofs.Keys.{rises-at}
 use Rattle.lists.proofs.Cells.{inserted}
 use Rattle.lists.proofs.Filled.{filled-length, filled-count}
 use Rattle.tables.specs.Values.{page, pagesOf, packPages}
@@ -35,18 +36,13 @@ module _ {A : Type 0} where
       go false q = omega arith
 
   module _ (key : A → ℕ) where
-    above : (b : ℕ) (l : List A) (i : ℕ) (d : A) → Rises key b l → i < length l → b < key (getD l i d)
-    above b [] i d r h = absurd (omega arith)
-    above b (x ∷ l) zero d r h = r .0
-    above b (x ∷ l) (suc i) d r h = omega (arith, r .0, above (key x) l i d (r .1) (le-of-suc-le-suc h))
-
     -- what is below stands before the place
     pub place-behind : (k b : ℕ) (l : List A) (i : ℕ) (d : A) → Rises key b l → i < length l → key (getD l i d) < k →
         i < place (λ x. leb k (key x)) l
     place-behind k b [] i d r h e = absurd (omega arith)
     place-behind k b (x ∷ l) zero d r h e = rw (lt-leb k (key x) e) (omega arith)
     place-behind k b (x ∷ l) (suc i) d r h e =
-        let below : key x < k = omega (arith, e, above (key x) l i d (r .1) (le-of-suc-le-suc h)) in
+        let below : key x < k = omega (arith, e, rises-at key (key x) l i d (r .1) (le-of-suc-le-suc h)) in
         let rest = place-behind k (key x) l i d (r .1) (le-of-suc-le-suc h) e in
         rw (lt-leb k (key x) below) (omega (arith, rest))
 

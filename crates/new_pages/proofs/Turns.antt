@@ -2,10 +2,10 @@
 use mathlib.Core.Path.{_≡_, sym, subst}
 use mathlib.Core.Bool.{true, false}
 use mathlib.Core.List.{List}
-use Prim.Native.Nat.{ℕ, suc, _+_, _-_, _<_}
-use native.Mathlib.Omega.{arith}
+use Prim.Native.Nat.{ℕ, _+_, _-_, _<_}
 use borrow.Author.Tests.{eq-eqb, ne-eqb}
 use Rattle.lists.specs.Order.{put}
+use Rattle.lists.proofs.Tests.{one-more}
 use Rattle.words.specs.declared.Answer.{Answer}
 use Rattle.words.specs.declared.Answer.the-variants.{Done, Failed}
 use Rattle.tables.specs.Values.{page, withPages}
@@ -16,9 +16,6 @@ use Rattle.tables.specs.declared.Outcome.{Outcome}
 use Rattle.tables.specs.declared.Outcome.the-variants.{DriverFailed, Incredible}
 use Rattle.driving.specs.Ran.{Point, point, Ran}
 use Rattle.driving.proofs.Ran.{gave, ended, looked, taken, passed, next, stop, changed}
-
-pub one-more : (n : ℕ) → 0 < n → n ≡ suc (n - 1)
-one-more n h = omega arith
 
 module _ {xs : List ℕ} {s : Point} (p n : ℕ) (o : Room) (a : ℕ) (q : s .tables .page ≡ p) (h : 0 < n) where
   asked : {e : Ending Answer} {u : Point} → Ran (create p) xs s e u → Ran (create (s .tables .page)) xs s e u

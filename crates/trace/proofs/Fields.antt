@@ -76,7 +76,7 @@ decimal-no-tab n =
     (λ b t. let is = is-digit b t in ne-eqb b 9 (omega arith))
     (decimal n) (decimal-digits n)
 
-fields-row : (w : List ℕ) (a b c : ℕ) → NoTab w → fields (row w a b c) ≡ w ∷ decimal a ∷ decimal b ∷ decimal c ∷ []
+pub fields-row : (w : List ℕ) (a b c : ℕ) → NoTab w → fields (row w a b c) ≡ w ∷ decimal a ∷ decimal b ∷ decimal c ∷ []
 unfolding row
 fields-row w a b c h =
     rw (

@@ -4,8 +4,8 @@ pub mod Decimal
 pub mod Put
 pub mod Words
 pub mod Printed
-pub mod Meaning
 pub mod Numbers
+pub mod Meaning
 pub mod Fields
 pub mod Theorems
 pub mod Feeds

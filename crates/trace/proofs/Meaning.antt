@@ -1,7 +1,7 @@
 -- What is read as a line is its text: each part of a line that the machine holds stands for the bytes that were read. Assumes nothing.
 use mathlib.Core.Path.{_≡_, refl, sym, ap, _∙_}
 use mathlib.Core.List.{List, [], _∷_, _++_, append-assoc, append-nil}
-use mathlib.Core.Bool.{true, cond, _&&_}
+use mathlib.Core.Bool.{cond, _&&_}
 use Prim.Native.Nat.{ℕ, zero, suc, _+_, _-_, _*_, _/_, _%_, _<_, _≤_, _^_}
 use native.Mathlib.Omega.{arith}
 use borrow.Author.Tests.{eq-eqb, ne-eqb, eqb-true, eqb-false, leb-true, ltb-true}
@@ -33,6 +33,7 @@ use Rattle.trace.specs.declared.Partial.the-variants.{Letters, Tab, Digi
 use Rattle.trace.proofs.Cases.{by-test}
 use Rattle.trace.proofs.Counted.{found, counted-within}
 use Rattle.trace.proofs.Decimal.{one-digit, one-more}
+use Rattle.trace.proofs.Numbers.{is-digit}
 use Rattle.trace.proofs.Printed.{read-printed}
 
 -- the letters that a number stands for
@@ -107,9 +108,6 @@ letters-means w b l m =
     let below : b ≤ 122 = leb-true b 122 (is .1) in
     rw m (sym (letter w b (omega arith) (omega arith))))
     (λ u. tt))
-
-is-digit : (b : ℕ) → isDigit b ≡ true → (48 ≤ b) × (b ≤ 57)
-is-digit b t = let is = both (leb 48 b) (leb b 57) t in (leb-true 48 b (is .0), leb-true b 57 (is .1))
 
 tab-means : (f : Before) (b : ℕ) (l : List ℕ) → Means (Tab f) l → Means (afterTab f b) (l ++ (b ∷ []))
 unfolding afterTab
