@@ -14,6 +14,7 @@ use Rattle.tables.specs.Close.{closeSteps, failures, closeFinished, close}
 use Rattle.tables.specs.declared.Pool.{Pool}
 use Rattle.tables.specs.declared.Outcome.the-variants.{Closed, PoolClosed, NotWellFormed, ShortLog}
 use Rattle.trace.specs.Kinds.{ofRecord, closeLine}
+use Rattle.spare.proofs.Calls.{closed-records}
 use Rattle.judging.specs.Rules.{Judge}
 use Rattle.judging.specs.Verdict.{told, answered}
 use Rattle.judging.specs.Verdict as Verdict
@@ -40,11 +41,6 @@ module _ (s : Judge) (over : s .run .over ≡ false) where
   result-accepted p rs t (on u) x r = record { state = r .state; reads = r .reads; holds = closed-read (r .state) (failures rs) (r .holds) }
   result-accepted p rs t (ends o) x r = absurd (r x .holds)
 
-same-records : (p : Pool) (rs : List Record) (e : Ending (Unit {0})) → closeFinished p rs e .records ≡ rs
-unfolding closeFinished
-same-records p rs (on u) = refl
-same-records p rs (ends o) = refl
-
 module _ (p : Pool) (s : Judge) (h : Stands p s) where
   served : (xs : List ℕ) (w : Went (Unit {0})) → w ≡ closeSteps xs 0 (h .tables) → Read closes p s (closeFinished p (w .records) (w .ending))
   served xs w e x fair =
@@ -53,7 +49,7 @@ module _ (p : Pool) (s : Judge) (h : Stands p s) where
       let read = step-call closes s (h .opens) (h .waiting) in
       let f = fair-records s z closeLine read (map ofRecord (r .records)) (resultOf (numbers (r .outcome))) fair in
       reach-entry s z closeLine read (map ofRecord (r .records)) (resultOf (numbers (r .outcome))) (Standing (r .pool))
-      (result-accepted s (h .over) p (w .records) (w .tables) (w .ending) x (reached w e (subst (λ rs. Fair (addresses (s .mapped)) (map ofRecord rs)) (same-records p (w .records) (w .ending)) f)))
+      (result-accepted s (h .over) p (w .records) (w .tables) (w .ending) x (reached w e (subst (λ rs. Fair (addresses (s .mapped)) (map ofRecord rs)) (closed-records p (w .records) (w .ending)) f)))
     where
       reached : (w : Went (Unit {0})) → w ≡ closeSteps xs 0 (h .tables) → Fair (addresses (s .mapped)) (map ofRecord (w .records)) →
           Reached (λ _ t y. y .run ≡ calling closes s .run) (λ _ _ _. ⊥) (calling closes s) (map ofRecord (w .records)) (w .tables) (w .ending)

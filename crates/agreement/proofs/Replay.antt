@@ -2,11 +2,12 @@
 -- that it ran, each on the answers lent to it. Assumes nothing.
 use mathlib.Core.Path.{_≡_, refl, sym, ap, _∙_, subst}
 use mathlib.Core.Bool.{Bool, true, false, cond, false≢true}
-use mathlib.Core.List.{List, [], _∷_, _++_, map, append-assoc}
+use mathlib.Core.List.{List, [], _∷_, _++_, map}
 use Prim.Native.Nat.{ℕ, _+_}
 use native.Mathlib.Omega.{arith}
 use lib.ListN.{take}
 use Rattle.lists.specs.Walks.{joined}
+use Rattle.lists.proofs.Walks.{joined-append}
 use Rattle.words.specs.declared.Record.{Record}
 use Rattle.tables.specs.Values.{closedPool}
 use Rattle.tables.specs.Outcomes.{numbers, is}
@@ -85,10 +86,6 @@ unfolding Replay.answered
 open-answer p w e = rw e refl
 
 -- what is printed of a call is the text of its entry
-joined-append : (l m : List Line) → joined printed (l ++ m) ≡ joined printed l ++ joined printed m
-joined-append [] m = refl
-joined-append (x ∷ l) m = ap (λ (t : List ℕ). printed x ++ t) (joined-append l m) ∙ sym (append-assoc (printed x) (joined printed l) (joined printed m))
-
 printed-records : (rs : List Record) → printedAll rs ≡ joined printed (map ofRecord rs)
 printed-records [] = refl
 printed-records (r ∷ rs) = ap (λ (t : List ℕ). printed (ofRecord r) ++ t) (printed-records rs)
@@ -97,7 +94,7 @@ entry-text : (w : Waiting) (r : Reply) → traced (λ q. []) w r ≡ joined prin
 unfolding traced
 entry-text w r =
     ap (λ (t : List ℕ). printed (callLine (w .call)) ++ (t ++ (printed (resultOf (numbers (r .outcome))) ++ []))) (printed-records (r .records))
-    ∙ ap (λ (t : List ℕ). printed (callLine (w .call)) ++ t) (sym (joined-append (map ofRecord (r .records)) (resultOf (numbers (r .outcome)) ∷ [])))
+    ∙ ap (λ (t : List ℕ). printed (callLine (w .call)) ++ t) (sym (joined-append printed (map ofRecord (r .records)) (resultOf (numbers (r .outcome)) ∷ [])))
 
 -- A call that was run: it wasn't answered 17, and the lines are its entry and those of what follows.
 record Ran (p : Pool) (w : Waiting) (rest : Pool → List ℕ) (lines : List Line) : Type 0 where

@@ -1,7 +1,8 @@
--- Laws of sums over a list: over two lists in one, over those that pass a test, over what is joined, and term by term. Assumes nothing.
-use mathlib.Core.Path.{_≡_, refl}
+-- Laws of sums over a list: over two lists in one, over those that pass a test, over what is joined, and term by term; and of what is joined from two lists.
+-- Assumes nothing.
+use mathlib.Core.Path.{_≡_, refl, sym, ap, _∙_}
 use mathlib.Core.Bool.{Bool, true, false, cond, not}
-use mathlib.Core.List.{List, [], _∷_, _++_}
+use mathlib.Core.List.{List, [], _∷_, _++_, append-assoc}
 use Prim.Native.Nat.{ℕ, _+_, _<_}
 use native.Mathlib.Omega.{arith}
 use lib.ListN.{length}
@@ -41,6 +42,10 @@ module _ {ℓ} {A : Type ℓ} where
   pub length-sum : (l : List A) → length l ≡ sum (λ x. 1) l
   length-sum [] = refl
   length-sum (x ∷ l) = omega (arith, length-sum l)
+
+pub joined-append {ℓ ℓ′} : {A : Type ℓ} {B : Type ℓ′} (f : A → List B) (l m : List A) → joined f (l ++ m) ≡ joined f l ++ joined f m
+joined-append f [] m = refl
+joined-append {B} f (x ∷ l) m = ap (λ (t : List B). f x ++ t) (joined-append f l m) ∙ sym (append-assoc (f x) (joined f l) (joined f m))
 
 pub sum-joined {ℓ ℓ′} : {A : Type ℓ} {B : Type ℓ′} (f : B → ℕ) (g : A → List B) (l : List A) → sum f (joined g l) ≡ sum (λ x. sum f (g x)) l
 sum-joined f g [] = refl

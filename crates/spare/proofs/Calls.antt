@@ -54,6 +54,12 @@ alike-admitted : (p : Pool) (log : ℕ) {r s : Reply} → Alike r s → Alike (a
 unfolding admitted
 alike-admitted p log a = search alike-cond depth 10
 
+-- what close makes of its steps has their records
+pub closed-records : (p : Pool) (rs : List Record) (e : Ending (Unit {0})) → closeFinished p rs e .records ≡ rs
+unfolding closeFinished
+closed-records p rs (on u) = refl
+closed-records p rs (ends o) = refl
+
 module _ (xs : List ℕ) where
   alike-malloc : (p : Pool) (n s : ℕ) → Alike (malloc p n s (take 4096 xs) 2048) (malloc p n s xs 2048)
   unfolding mallocBy finished
@@ -70,11 +76,6 @@ module _ (xs : List ℕ) where
   alike-free : (p : Pool) (a : ℕ) → Alike (free p a (take 4096 xs) 2048) (free p a xs 2048)
   unfolding free
   alike-free p a = alike-admitted p 2048 (alike-found p a _)
-
-  closed-records : (p : Pool) (rs : List Record) (e : Ending (Unit {0})) → closeFinished p rs e .records ≡ rs
-  unfolding closeFinished
-  closed-records p rs (on u) = refl
-  closed-records p rs (ends o) = refl
 
   alike-close : (p : Pool) → Alike (close p (take 4096 xs) 2048) (close p xs 2048)
   unfolding close

@@ -2,7 +2,7 @@
 -- Each takes at most `most` places. Assumes nothing.
 use mathlib.Core.Path.{_≡_, refl, sym, ap, _∙_}
 use mathlib.Core.Bool.{Bool, true, false}
-use mathlib.Core.List.{List, [], _∷_, _++_, append-assoc, append-nil}
+use mathlib.Core.List.{List, [], _∷_, _++_, append-nil}
 use Prim.Native.Nat.{ℕ, _+_, _*_, _≤_, _<_, min}
 use native.Mathlib.Omega.{arith}
 use native.Mathlib.Nat.{mul-add, mul-le-mul-left}
@@ -12,6 +12,7 @@ use lib.Dec.{ltb}
 use lib.ListN.{length, take, getD}
 use lib.Seq.{take-suc, take-all}
 use Rattle.lists.specs.Walks.{joined}
+use Rattle.lists.proofs.Walks.{joined-append}
 use Rattle.trace.specs.Put.{Put}
 use Rattle.trace.proofs.Put.{put-none, put-then, put-as, put-length}
 use Rattle.table_text.specs.Puts.{Puts}
@@ -39,16 +40,12 @@ take-min count l = go (ltb count (length l)) refl
         rw m (take-all (length l) l (omega arith) ∙ sym (take-all count l h))
 
 module _ {A : Type 0} (line : A → List ℕ) where
-  joined-append : (l m : List A) → joined line (l ++ m) ≡ joined line l ++ joined line m
-  joined-append [] m = refl
-  joined-append (x ∷ l) m = ap (λ (t : List ℕ). line x ++ t) (joined-append l m) ∙ sym (append-assoc (line x) (joined line l) (joined line m))
-
   joined-next : (l : List A) (i : ℕ) (d : A) → i < length l → joined line (take i l) ++ line (getD l i d) ≡ joined line (take (i + 1) l)
   joined-next l i d h =
       sym
       (ap (λ (k : ℕ). joined line (take k l)) (add-one i)
       ∙ ap (joined line) (take-suc l i d h)
-      ∙ joined-append (take i l) (getD l i d ∷ [])
+      ∙ joined-append line (take i l) (getD l i d ∷ [])
       ∙ ap (λ (t : List ℕ). joined line (take i l) ++ t) (append-nil (line (getD l i d))))
 
 -- The invariant of `turns` turns over `l`: `out` is what `out₀` has become after `i` of them, and `next` the place after what is put.

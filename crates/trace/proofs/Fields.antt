@@ -1,13 +1,13 @@
 -- Reading by fields is reading byte by byte: the fields of a text are its word and decimals, and a number's form is that of a decimal. Assumes nothing.
 use mathlib.Core.Path.{_≡_, refl, sym, ap, _∙_}
-use mathlib.Core.Bool.{true, false, _&&_, not}
+use mathlib.Core.Bool.{true, false, _&&_, _||_}
 use mathlib.Core.List.{List, [], _∷_, _++_, append-nil}
 use Prim.Native.Nat.{ℕ, _<_, _≤_}
 use native.Mathlib.Omega.{arith}
-use borrow.Author.Tests.{lt-ltb, ne-eqb, eqb-true, ltb-true, not-true}
+use borrow.Author.Tests.{lt-ltb, ne-eqb, eqb-true, ltb-true}
 use lib.Dec.{ltb, eqb}
-use Rattle.lists.specs.Tests.{All, every, same}
-use Rattle.lists.proofs.Tests.{both}
+use Rattle.lists.specs.Tests.{All, same}
+use Rattle.lists.proofs.Tests.{both, neither, all-implies}
 use Rattle.lists.proofs.Every.{every-all}
 use Rattle.lists.proofs.Pairs.{same-is}
 use Rattle.trace.specs.Form.{words, word, decimal, row, textOf, line, Proper, ReadAs}
@@ -18,6 +18,7 @@ use Rattle.trace.specs.declared.Reading.{Reading}
 use Rattle.trace.specs.declared.Reading.the-variants.{Good, Malformed}
 use Rattle.trace.proofs.Cases.{by-test, of-each}
 use Rattle.trace.proofs.Counted.{found, counted-within}
+use Rattle.trace.proofs.Words.{word-plain}
 use Rattle.trace.proofs.Numbers.{is-digit, decimal-digits, value-decimal, number-form, form-number}
 use Rattle.trace.proofs.Meaning.{only, never}
 
@@ -62,13 +63,8 @@ fields-part [] l a = refl
 fields-part (b ∷ f) l a = rw (a .0, fields-part f l (a .1))
 
 -- words and decimals have no tab
-word-no-tab : (k : ℕ) → 1 ≤ k → k ≤ 16 → NoTab (word k)
-unfolding word
-word-no-tab k lo hi =
-    every-all (λ b. not (eqb b 9)) (λ b. eqb b 9 ≡ false) (λ b. not-true (eqb b 9)) (word k)
-    (of-each (λ n. every (λ b. not (eqb b 9)) (word n) ≡ true) 1 16 k
-    (refl, (refl, (refl, (refl, (refl, (refl, (refl, (refl, (refl, (refl, (refl, (refl, (refl, (refl, (refl, (refl, tt))))))))))))))))
-    lo (omega arith))
+pub word-no-tab : (k : ℕ) → NoTab (word k)
+word-no-tab k = all-implies (λ b. (eqb b 9 || eqb b 10) ≡ false) (λ b. eqb b 9 ≡ false) (λ b e. neither (eqb b 9) (eqb b 10) e .0) (word k) (word-plain k)
 
 decimal-no-tab : (n : ℕ) → NoTab (decimal n)
 decimal-no-tab n =
@@ -86,12 +82,12 @@ fields-row w a b c h =
       fields-last (decimal c) (decimal-no-tab c),
     )
 
-kind-word : (k : ℕ) → 1 ≤ k → k ≤ 16 → kind (word k) ≡ k
+pub kind-word : (k : ℕ) → k ≤ 16 → kind (word k) ≡ k
 unfolding kind word
-kind-word k lo hi =
-    of-each (λ n. kind (word n) ≡ n) 1 16 k
-    (refl, (refl, (refl, (refl, (refl, (refl, (refl, (refl, (refl, (refl, (refl, (refl, (refl, (refl, (refl, (refl, tt))))))))))))))))
-    lo (omega arith)
+kind-word k h =
+    of-each (λ n. kind (word n) ≡ n) 0 17 k
+    (refl, (refl, (refl, (refl, (refl, (refl, (refl, (refl, (refl, (refl, (refl, (refl, (refl, (refl, (refl, (refl, (refl, tt)))))))))))))))))
+    (omega arith) (omega arith)
 
 word-kind : (w : List ℕ) → (kind w ≡ 0 → ⊥) → w ≡ word (kind w)
 unfolding kind word
@@ -110,9 +106,9 @@ kind-within w h = let r = counted-within (same w) 1 words h in omega arith
 reads-text : (l : Line) → Proper l → reading (textOf l) ≡ Good l
 unfolding reading textOf
 reads-text l p =
-    rw (fields-row (word (l .kind)) (l .first) (l .second) (l .third) (word-no-tab (l .kind) (p .from-one) (p .to-sixteen)))
+    rw (fields-row (word (l .kind)) (l .first) (l .second) (l .third) (word-no-tab (l .kind)))
     (simp (
-      kind-word (l .kind) (p .from-one) (p .to-sixteen),
+      kind-word (l .kind) (p .to-sixteen),
       lt-ltb 0 (l .kind) (omega (arith, p .from-one)),
       number-form (l .first) (p .one),
       number-form (l .second) (p .two),

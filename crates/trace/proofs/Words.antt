@@ -1,11 +1,15 @@
--- The table of the words is right, row by row, and no word has more than eight letters. Assumes nothing.
+-- The table of the words is right, row by row, and no word has more than eight letters, nor a tab or a line feed. Assumes nothing.
 use mathlib.Core.Path.{_≡_, refl}
+use mathlib.Core.Bool.{true, false, _||_, not}
 use mathlib.Core.List.{List, [], _∷_}
 use Prim.Native.Nat.{ℕ, _+_, _-_, _*_, _≤_, _<_}
 use native.Mathlib.Omega.{arith}
 use native.Mathlib.Decide.{decLe}
-use lib.Dec.{lit≤}
+use borrow.Author.Tests.{not-true}
+use lib.Dec.{lit≤, eqb}
 use lib.ListN.{getD, take, drop, length, List·getD-eq-default}
+use Rattle.lists.specs.Tests.{All, every}
+use Rattle.lists.proofs.Every.{every-all}
 use Rattle.trace.specs.Form.{ascii, words, word}
 use Rattle.trace.proofs.Cases.{of-each}
 
@@ -47,3 +51,15 @@ length-word k =
           (omega arith) (omega arith)
       | no h ↦ rw (no-word k (omega arith)) (omega arith)
     ]
+
+-- no word has a tab or a line feed, whatever the kind: one that has no word has no letters
+pub word-plain : (k : ℕ) → All (λ b. (eqb b 9 || eqb b 10) ≡ false) (word k)
+unfolding word
+word-plain k =
+    every-all (λ b. not (eqb b 9 || eqb b 10)) (λ b. (eqb b 9 || eqb b 10) ≡ false) (λ b. not-true (eqb b 9 || eqb b 10)) (word k)
+    (elim (decLe k 16) [
+      | yes h ↦ of-each (λ n. every (λ b. not (eqb b 9 || eqb b 10)) (word n) ≡ true) 0 17 k
+          (refl, (refl, (refl, (refl, (refl, (refl, (refl, (refl, (refl, (refl, (refl, (refl, (refl, (refl, (refl, (refl, (refl, tt)))))))))))))))))
+          (omega arith) (omega arith)
+      | no h ↦ rw (no-word k (omega arith)) refl
+    ])
