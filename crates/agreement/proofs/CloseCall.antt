@@ -48,8 +48,9 @@ module _ (p : Pool) (s : Judge) (h : Stands p s) where
       let r = closeFinished p (w .records) (w .ending) in
       let read = step-call closes s (h .opens) (h .waiting) in
       let f = fair-records s z closeLine read (map ofRecord (r .records)) (resultOf (numbers (r .outcome))) fair in
+      let same = closed-records p (w .records) (w .ending) in
       reach-entry s z closeLine read (map ofRecord (r .records)) (resultOf (numbers (r .outcome))) (Standing (r .pool))
-      (result-accepted s (h .over) p (w .records) (w .tables) (w .ending) x (reached w e (subst (λ rs. Fair (addresses (s .mapped)) (map ofRecord rs)) (closed-records p (w .records) (w .ending)) f)))
+      (result-accepted s (h .over) p (w .records) (w .tables) (w .ending) x (reached w e (subst (λ rs. Fair (addresses (s .mapped)) (map ofRecord rs)) same f)))
     where
       reached : (w : Went (Unit {0})) → w ≡ closeSteps xs 0 (h .tables) → Fair (addresses (s .mapped)) (map ofRecord (w .records)) →
           Reached (λ _ t y. y .run ≡ calling closes s .run) (λ _ _ _. ⊥) (calling closes s) (map ofRecord (w .records)) (w .tables) (w .ending)
