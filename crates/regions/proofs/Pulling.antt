@@ -11,6 +11,7 @@ use Rattle.lists.specs.Tests.{All, Member, filter}
 use Rattle.lists.specs.Order.{sorted, Rises, least}
 use Rattle.lists.specs.Front.{front, orElse}
 use Rattle.lists.specs.Scan.{better}
+use Rattle.lists.specs.declared.Best.{Best}
 use Rattle.lists.proofs.Members.{member-least, member-filter, all-members}
 use Rattle.lists.proofs.Filters.{rises-filter, filter-both, filter-commute, filter-all}
 use Rattle.lists.proofs.Keys.{rises-same}
@@ -18,7 +19,7 @@ use Rattle.lists.proofs.Front.{front-append, front-sorted, sorted-least}
 use Rattle.tables.specs.InsertFree.{from, withoutFree}
 use Rattle.tables.specs.Pull.{ownOf, othersOf, pullOrder}
 use Rattle.tables.specs.declared.FreeRegion.{FreeRegion}
-use Rattle.regions.specs.Pulling.{nextToPull, besides, isMade, Oldest, olderOf}
+use Rattle.regions.specs.Pulling.{nextToPull, besides, isMade}
 use Rattle.regions.specs.declared.Made.{Made}
 use Rattle.regions.specs.declared.Made.the-variants.{Region, Nothing}
 
@@ -64,6 +65,19 @@ rises-besides Nothing b l r = r
 pub next-found : (m : Made) (s : ℕ) (l : List FreeRegion) (a b : Option FreeRegion) → a ≡ least age (filter (own m s) l) → b ≡ least age (filter (other m s) l) →
     orElse a b ≡ nextToPull s (besides m l)
 next-found m s l a b e f = rw (e, f) (sym (next-besides m s l))
+
+-- the oldest so far, of this stream and of the others
+pub record Oldest : Type 0 where
+  pub own : Best
+  pub other : Best
+
+-- the oldest so far, once the region `q` at place `i` is seen
+unfoldable pub olderOf : Made → ℕ → ℕ → Oldest → FreeRegion → Oldest
+olderOf m s i o q =
+    cond (isMade m q) o (
+    cond (eqb (q .stream) s)
+    (record { own = better i (q .id .0) (o .own); other = o .other })
+    (record { own = o .own; other = better i (q .id .0) (o .other) }))
 
 -- a turn of the scan, for each of the two
 module _ (m : Made) (s i : ℕ) (o : Oldest) (q : FreeRegion) where

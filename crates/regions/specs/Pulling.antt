@@ -1,12 +1,10 @@
 -- The next region to pull.
-use mathlib.Core.Bool.{Bool, false, cond}
+use mathlib.Core.Bool.{Bool, false}
 use mathlib.Core.List.{List}
 use mathlib.Core.Option.{Option}
 use Prim.Native.Nat.{ℕ}
 use lib.Dec.{eqb}
 use Rattle.lists.specs.Front.{front}
-use Rattle.lists.specs.Scan.{better}
-use Rattle.lists.specs.declared.Best.{Best}
 use Rattle.tables.specs.InsertFree.{from, withoutFree}
 use Rattle.tables.specs.Pull.{pullOrder}
 use Rattle.tables.specs.declared.FreeRegion.{FreeRegion}
@@ -25,16 +23,3 @@ besides Nothing l = l
 unfoldable pub isMade : Made → FreeRegion → Bool
 isMade (Region a) q = eqb (from q) (a .0)
 isMade Nothing q = false
-
--- the oldest so far, of this stream and of the others
-pub record Oldest : Type 0 where
-  pub own : Best
-  pub other : Best
-
--- the oldest so far, once the region `q` at place `i` is seen
-unfoldable pub olderOf : Made → ℕ → ℕ → Oldest → FreeRegion → Oldest
-olderOf m s i o q =
-    cond (isMade m q) o (
-    cond (eqb (q .stream) s)
-    (record { own = better i (q .id .0) (o .own); other = o .other })
-    (record { own = o .own; other = better i (q .id .0) (o .other) }))
