@@ -11,12 +11,22 @@ use crate::{
 
 /// Before each free of the session, on the pool that it meets.
 pub fn print_floor(session: &str, steps: &[Step], spent: &[Spent]) {
-    let mut passed = rust_alone(steps, spent);
-    let mut tested = passed.clone();
-    often(|_| replay(steps, &mut passed, &mut tested));
-    print_mean(session, "passed in and out", &passed);
-    print_mean(session, "passed in, tested, and out", &tested);
+    let frees = rust_alone(steps, spent);
+    let mut best = CALLS.map(|call| (call, frees.clone()));
+    often(|_| replay(steps, &mut best));
+    for ((name, _), spent) in &best {
+        print_mean(session, name, spent);
+    }
 }
+
+/// What is called, and how it is listed.
+type Call = (&'static str, fn(&mut Ours));
+
+const CALLS: [Call; 3] = [
+    ("passed in and out", Ours::pass),
+    ("passed in, looked at once, and out", Ours::look),
+    ("passed in, tested, and out", Ours::test),
+];
 
 /// The frees, with the Rust's times.
 fn rust_alone(steps: &[Step], spent: &[Spent]) -> Vec<Spent> {
@@ -30,20 +40,18 @@ fn rust_alone(steps: &[Step], spent: &[Spent]) -> Vec<Spent> {
         .collect()
 }
 
-fn replay(steps: &[Step], passed: &mut [Spent], tested: &mut [Spent]) {
+fn replay(steps: &[Step], best: &mut [(Call, Vec<Spent>)]) {
     let mut ours = Ours::new();
     let mut free = 0;
     for step in steps {
         if step.kind == Kind::Free {
-            keep_best(&mut passed[free], || ours.pass());
-            keep_best(&mut tested[free], || ours.test());
+            for ((_, run), best) in &mut *best {
+                let best = &mut best[free];
+                best.ours = best.ours.min(timed(|| run(&mut ours)).0);
+            }
             free += 1;
         }
         ours.lend(&step.answers);
         ours.run(step.call);
     }
-}
-
-fn keep_best(spent: &mut Spent, run: impl FnOnce()) {
-    spent.ours = spent.ours.min(timed(run).0);
 }

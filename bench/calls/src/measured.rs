@@ -11,12 +11,18 @@ pub struct Passed {
 #[link(name = "measured", kind = "static")]
 extern "C" {
     fn measured_passed(pool: Pool) -> Passed;
+    fn measured_looked(pool: Pool) -> Passed;
     fn measured_tested(pool: Pool) -> Passed;
 }
 
 pub fn passed(pool: &Pool) -> Passed {
     // SAFETY: the structs are the library's own, and it is proved for every pool value.
     unsafe { measured_passed(*pool) }
+}
+
+pub fn looked(pool: &Pool) -> Passed {
+    // SAFETY: as above.
+    unsafe { measured_looked(*pool) }
 }
 
 pub fn tested(pool: &Pool) -> Passed {

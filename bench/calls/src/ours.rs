@@ -55,6 +55,13 @@ impl Ours {
         *self.pool = measured::passed(&self.pool).pool;
     }
 
+    /// The pool in, each number of it looked at once, and out.
+    pub fn look(&mut self) {
+        let passed = measured::looked(&self.pool);
+        assert!(passed.sound, "a call left a pool that is not in order");
+        *self.pool = passed.pool;
+    }
+
     /// The pool in, tested, and out.
     pub fn test(&mut self) {
         let passed = measured::tested(&self.pool);

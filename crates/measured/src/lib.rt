@@ -17,6 +17,15 @@ pub extern "C" fn measured_passed(pool: Pool) -> Passed
     Passed { pool, sound: true }
 }
 
+// The pool in, each number of it looked at once, and out: a number past a count decides what is handed back, so every call looks.
+#[no_mangle]
+pub extern "C" fn measured_looked(pool: Pool) -> Passed
+    ensures { λ r. ⌜ r .pool ≡ pool ⌝ }
+{
+    let sound = pools::stands(pool);
+    Passed { pool, sound }
+}
+
 // The pool in, tested, and out.
 #[no_mangle]
 pub extern "C" fn measured_tested(pool: Pool) -> Passed
