@@ -1,6 +1,8 @@
 // What bench/ calls from outside, under C's conventions: the least that a call costs which takes the pool by value and hands it back.
 ghost use mathlib.Core.Path.{_≡_};
+ghost use mathlib.Core.Bool.{true};
 ghost use Rattle.tables.specs.WellFormed.{wellFormed};
+ghost use Rattle.pools.specs.Entering.{Stands};
 use tables::Pool;
 
 #[repr(C)]
@@ -12,15 +14,15 @@ pub struct Passed {
 // The pool in and out.
 #[no_mangle]
 pub extern "C" fn measured_passed(pool: Pool) -> Passed
-    ensures { λ r. ⌜ r .pool ≡ pool ⌝ }
+    ensures { λ r. ⌜ (r .pool ≡ pool) × (r .sound ≡ true) ⌝ }
 {
     Passed { pool, sound: true }
 }
 
-// The pool in, each number of it looked at once, and out: a number past a count decides what is handed back, so every call looks.
+// The pool in, each number of it looked at once, and out.
 #[no_mangle]
 pub extern "C" fn measured_looked(pool: Pool) -> Passed
-    ensures { λ r. ⌜ r .pool ≡ pool ⌝ }
+    ensures { λ r. ⌜ (r .pool ≡ pool) × (r .sound ≡ true → Stands pool) ⌝ }
 {
     let sound = pools::stands(pool);
     Passed { pool, sound }
