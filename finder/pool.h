@@ -30,8 +30,8 @@ enum { POOL_STACK = 1 << 20 };
 /* pool_value.state */
 enum { POOL_STATE_CLOSED = 0, POOL_STATE_OPEN = 1, POOL_STATE_STOPPED = 2 };
 
-/* A record of the log is kind, first, second, code (0 is success); a kind is one of these. Beside each: first, second.
-   Its answer is the pair code, value: the value is the base, the handle, 1 for a complete event and 0 else, and 0 for all others. */
+/* A record of the log is kind, first, second and code, which is 0 where the call succeeded; a kind is one of these. Beside each: first, second.
+   Its answer is a code and a value: a base for reserve, a handle for create, for asked 1 if the event is complete; else 0. See docs/RULES.md 2. */
 enum {
     POOL_WORD_RESERVE = 1,  /* base, va_size */
     POOL_WORD_CREATE = 2,   /* handle, page size */

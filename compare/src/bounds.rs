@@ -1,4 +1,4 @@
-//! Where document 01 answers by a number that the Rust has nothing like. Such a call must not be
+//! Where the rules answer by a number that the Rust has nothing like. Such a call must not be
 //! printed as if the Rust had agreed, so it is told before the pool runs, or in the driver.
 
 use original::{
@@ -25,7 +25,7 @@ pub struct Config {
 }
 
 impl Config {
-    /// What document 01 answers with 19 where it does not hold.
+    /// What the rules answer with 19 where it does not hold.
     pub fn is_good(self) -> bool {
         self.page_size > 0
             && self.va_size > 0
@@ -36,7 +36,7 @@ impl Config {
     }
 }
 
-/// The number by which document 01 refuses an opened pool's call at entry, where the Rust panics
+/// The number by which the rules refuse an opened pool's call at entry, where the Rust panics
 /// or goes on. `tables` is `None` for a closed pool.
 pub fn refusal_at_entry(call: Call, config: Config, tables: Option<&Tables>) -> Option<u64> {
     let Some(tables) = tables else {

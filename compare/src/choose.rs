@@ -1,4 +1,4 @@
-//! Which call comes next in a random session: credible, and within document 01's ceilings.
+//! Which call comes next in a random session: credible, and within the ceilings.
 
 use original::tables::{Range, Tables};
 

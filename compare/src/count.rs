@@ -16,7 +16,7 @@ pub struct Tally {
     pub sessions: u64,
 }
 
-/// The most that the tables held after a call, for each of document 01's ceilings.
+/// The most that the tables held after a call, for each of the ceilings.
 #[derive(Default)]
 pub struct Most {
     pub pages: usize,

@@ -1,4 +1,4 @@
-//! document 01's judge: a trace line by line, in memory that the four sizes bound.
+//! The judge (docs/RULES.md 8): a trace line by line, in memory that the four sizes bound.
 
 mod held;
 

@@ -53,7 +53,7 @@ impl Answers for Lent {
 }
 
 pub fn nothing_like(number: u64) -> String {
-    format!("document 01 answers {number} here, which the Rust has nothing like")
+    format!("the rules answer {number} here, which the Rust has nothing like")
 }
 
 /// What a driver line of a trace lends: its code, and the value that its own word picks.

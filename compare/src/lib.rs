@@ -1,4 +1,4 @@
-//! The Rust pool under a made-up driver: its traces, and what they show of document 01's rules.
+//! The Rust pool under a made-up driver: its traces, and what they show of docs/RULES.md.
 
 pub mod bounds;
 pub mod card;

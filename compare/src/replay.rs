@@ -34,7 +34,7 @@ struct Replay {
     lent: Rc<RefCell<Lent>>,
     session: Session,
     config: Config,
-    /// After answer 14 document 01's pool is stopped while the Rust's goes on.
+    /// After answer 14 the pool is stopped while the Rust's goes on.
     stopped: bool,
 }
 

@@ -1,4 +1,4 @@
-//! One pool, from its opening to its close, with document 01's calls and answers.
+//! One pool, from its opening to its close, with the calls and answers of docs/RULES.md 4.
 
 use std::{
     any::Any,
@@ -32,7 +32,7 @@ pub enum Call {
     Close,
 }
 
-/// document 01's three numbers of a result line.
+/// The three numbers of a result line.
 #[derive(Clone, Copy, Debug, PartialEq, Eq)]
 pub struct Answered {
     pub first: u64,
@@ -167,7 +167,7 @@ fn answer_of_error(error: MemoryError) -> Answered {
             available,
         } => answered(requested as u64, available as u64, 13),
         MemoryError::Cuda(error) => answered(error.code as u64, 0, 14),
-        error => panic!("document 01 has no number for: {error}"),
+        error => panic!("the rules have no number for: {error}"),
     }
 }
 

@@ -1,4 +1,4 @@
-//! document 01's trace text, a line in and a line out.
+//! The text of a trace (docs/RULES.md 6), a line in and a line out.
 
 use original::{
     driver::{Record, Word},
@@ -43,7 +43,7 @@ pub fn fields(line: &[u8]) -> Result<(&str, [u64; 3]), String> {
     Ok((word, numbers))
 }
 
-/// The line, or what is wrong with it. Fields that document 01 shows as 0 are not looked at.
+/// The line, or what is wrong with it. Fields that are 0 in docs/RULES.md 6.2 are not looked at.
 pub fn parse_line(line: &[u8]) -> Result<Line, String> {
     let (word, [first, second, third]) = fields(line)?;
     Ok(match word {

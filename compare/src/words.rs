@@ -75,7 +75,7 @@ and in percent:
 A failed record is left out: the Rust panics there.
 ";
 
-/// More streams, or pages in a malloc, than document 01's ceilings have use for.
+/// More streams, or pages in a malloc, than the ceilings have use for.
 const LARGEST: u64 = 256;
 
 const MIXED: Words = Words {
@@ -186,7 +186,7 @@ impl Words {
 
     fn check(&self) -> Result<(), String> {
         if !self.config.is_good() {
-            return Err("document 01 answers 19 to this opening".to_string());
+            return Err("the rules answer 19 to this opening".to_string());
         }
         if !(1..=LARGEST).contains(&self.streams) || !(1..=LARGEST).contains(&self.largest) {
             return Err(format!("streams and largest are from 1 to {LARGEST}"));

@@ -1,4 +1,4 @@
-//! Document 01's session to follow, against the figures that it gives.
+//! The session of docs/RULES.md 9, against the figures that stand there.
 
 mod common;
 
@@ -11,7 +11,7 @@ use compare::{
 };
 use original::tables::{Range, Tables};
 
-/// J and K, which document 01 refuses by 6, have no Rust behind them.
+/// J and K, which the rules refuse by 6, have no Rust behind them.
 const WITHOUT_RUST: [&str; 2] = [
     "malloc\t6\t1\t0\nresult\t6\t0\t6\n",
     "malloc\t0\t1\t0\nresult\t0\t0\t6\n",

@@ -94,7 +94,7 @@ fn words_of_rust_generate_are_checked() {
         (&["1", "1", "fail=record"], "no such call to fail: record"),
         (
             &["1", "1", "page=3"],
-            "document 01 answers 19 to this opening",
+            "the rules answer 19 to this opening",
         ),
         (
             &["1", "1", "streams=0"],

@@ -61,7 +61,7 @@ fn values_go_by_the_word() {
     );
     assert_eq!(printed(&text).as_bytes(), whole());
     let map = trace("open 4 40 0\nmap 1000 40 0");
-    let line = "line 1: document 01 answers 15 here, which the Rust has nothing like";
+    let line = "line 1: the rules answer 15 here, which the Rust has nothing like";
     assert_eq!(complaint(REPLAY, &[], &map), line);
 }
 

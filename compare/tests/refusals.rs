@@ -14,7 +14,7 @@ const OPENED: &str = "open 4 40 0\nreserve 1000 40 0\n";
 const ONE_PAGE: &str = "create 7 4 0\nmap 1000 7 0\naccess 1000 4 0\nrecord 0 1 0\n";
 
 fn nothing_like(line: usize, number: u64) -> String {
-    format!("line {line}: document 01 answers {number} here, which the Rust has nothing like")
+    format!("line {line}: the rules answer {number} here, which the Rust has nothing like")
 }
 
 fn refused(text: &str) -> String {

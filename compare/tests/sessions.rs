@@ -55,7 +55,7 @@ fn each_rule_and_answer_occurs() {
     }
 }
 
-/// Document 01's ceilings are reached, but for that on holes: few stand side by side here.
+/// The ceilings are reached, but for that on holes: few stand side by side here.
 #[test]
 fn ceilings_are_reached() {
     let count = counted();

@@ -1,4 +1,4 @@
-//! libmeasured.a: calls that do nothing but take the pool by value and hand it back.
+//! libbench_passing.a: calls that do nothing but take the pool by value and hand it back.
 
 use caldarimpu::ffi::Pool;
 
@@ -8,7 +8,7 @@ pub struct Passed {
     pub sound: bool,
 }
 
-#[link(name = "measured", kind = "static")]
+#[link(name = "bench_passing", kind = "static")]
 extern "C" {
     fn measured_passed(pool: Pool) -> Passed;
     fn measured_looked(pool: Pool) -> Passed;

@@ -42,7 +42,7 @@ impl Card {
 }
 
 impl Answers for Card {
-    /// Notes the driver call as document 01's table says.
+    /// Notes the driver call as docs/RULES.md 2.1 says.
     fn answer(&mut self, wanted: caldarimpu::Record) -> Result<u64, Code> {
         let wanted = record_of(&wanted);
         let answer = self.card.lend(wanted);

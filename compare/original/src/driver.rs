@@ -1,9 +1,9 @@
 //! The card that the pool's driver calls reach: it numbers streams and events, takes one lent
-//! answer a call, and notes a record of each as document 01's table says.
+//! answer a call, and notes a record of each as docs/RULES.md 2.1 says.
 
 use std::{cell::RefCell, ffi::c_void, rc::Rc};
 
-/// document 01's driver words, in its order.
+/// The driver's words, in the order of their numbers.
 #[derive(Clone, Copy, Debug, PartialEq, Eq, PartialOrd, Ord)]
 pub enum Word {
     Reserve,

@@ -12,7 +12,7 @@ mod c_functions;
 
 include!(concat!(env!("OUT_DIR"), "/tree.rs"));
 
-// document 01's numbers are the original's sizes and addresses.
+// The numbers of the rules are the original's sizes and addresses.
 const _: () = assert!(usize::BITS == 64);
 
 /// One file of the original: its name, the text compiled, and our appendix at the end of it.

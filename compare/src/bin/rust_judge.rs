@@ -1,4 +1,4 @@
-//! Judges traces by document 01, one line each.
+//! Judges traces by docs/RULES.md 8, one line each.
 
 use std::{
     fs::File,

@@ -1,4 +1,4 @@
-//! Which of document 01's rules a call showed, told from its lines and the tables around it.
+//! Which of the rules (docs/RULES.md) a call showed, told from its lines and the tables around it.
 
 mod cleanup;
 mod fit;

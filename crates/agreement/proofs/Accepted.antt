@@ -1,5 +1,5 @@
 -- Every trace of the pool is accepted: the opening and each call lead the judge from one state that agrees with the pool to the next, and at the end no
--- line is missing. So in every run no two live buffers share a page, and each keeps its pages. Assumes nothing.
+-- line is missing. So in every run no two live buffers share a page, and each keeps its pages.
 use mathlib.Core.Path.{_≡_, _∙_}
 use mathlib.Core.Bool.{true}
 use mathlib.Core.List.{List, [], _∷_, _++_, map}
@@ -10,12 +10,12 @@ use Rattle.tables.specs.Open.{pageSize}
 use Rattle.trace.specs.Kinds.{openLine}
 use Rattle.trace.specs.declared.Line.{Line}
 use Rattle.trace.specs.declared.Reading.the-variants.{Good}
-use Rattle.judging.specs.Rules.{Judge}
-use Rattle.judging.specs.Verdict as Verdict
-use Rattle.judging.specs.Meaning.{SoundAfter, newestFirst}
-use Rattle.judging.specs.declared.Verdict.the-variants.{Accepted}
-use Rattle.judging.proofs.Keeps.{on-on}
-use Rattle.judging.proofs.Accepted.{accepted-means}
+use Rattle.judge_rules.specs.Rules.{Judge}
+use Rattle.judge_rules.specs.Verdict as Verdict
+use Rattle.judge_rules.specs.Meaning.{SoundAfter, newestFirst}
+use Rattle.judge_rules.specs.declared.Verdict.the-variants.{Accepted}
+use Rattle.judge_rules.proofs.Keeps.{on-on}
+use Rattle.judge_rules.proofs.Accepted.{accepted-means}
 use Rattle.agreement.specs.Runs.{Lent, Opening, opened, entry, traceFrom, traceOf}
 use Rattle.agreement.specs.Premises.{credible, Premises}
 use Rattle.agreement.specs.Judges.{read, Fair}

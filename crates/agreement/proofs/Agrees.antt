@@ -1,4 +1,4 @@
--- The relation carried over changes: of tables that only hold the ranges elsewhere, of the counter when an id is recorded, of the judge's live buffers. Assumes nothing.
+-- The relation carried over changes: of tables that only hold the ranges elsewhere, of the counter when an id is recorded, of the judge's live buffers.
 use mathlib.Core.Path.{_≡_, refl, ap, _∙_}
 use mathlib.Core.List.{List}
 use Prim.Native.Nat.{ℕ, _+_, _%_}
@@ -7,9 +7,9 @@ use Rattle.tables.specs.Values.{Tables, withHoles, withCounter}
 use Rattle.tables.specs.declared.LiveBuffer.{LiveBuffer}
 use Rattle.tables.specs.declared.Hole.{Hole}
 use Rattle.keeping.specs.Cover.{coverFree, coverLive, coverZombies}
-use Rattle.judging.specs.Rules.{Live, Judge}
-use Rattle.judging.specs.Verdict.{withLive, withLast}
-use Rattle.judging.specs.declared.Run.{Run}
+use Rattle.judge_rules.specs.Rules.{Live, Judge}
+use Rattle.judge_rules.specs.Verdict.{withLive, withLast}
+use Rattle.judge_rules.specs.declared.Run.{Run}
 use Rattle.agreement.specs.Agrees.{SameBy, buffer, Agrees}
 use Rattle.agreement.proofs.Meets.{last-next}
 
@@ -19,19 +19,19 @@ spansAt t x = coverFree (t .free) x + coverLive (t .live) x + coverZombies (t .z
 
 -- the judge's page size is the pool's
 pub agrees-page : {run : Run} {new : ℕ → ℕ} {spare : List ℕ} {live : List LiveBuffer} {t : Tables} {s : Judge} → Agrees run new spare live t s →
-    s .run .page ≡ t .page
+    s .run .page ≡ t .fields .page
 agrees-page g = ap (λ (r : Run). r .page) (g .runs) ∙ g .page
 
 -- `t` differs from `u` in free, live, holes and zombies at most
 pub record Beside (u t : Tables) : Type 0 where
-  pub page : t .page ≡ u .page
-  pub va : t .va ≡ u .va
-  pub counter : t .counter ≡ u .counter
+  pub page : t .fields .page ≡ u .fields .page
+  pub va : t .fields .va ≡ u .fields .va
+  pub counter : t .fields .counter ≡ u .fields .counter
   pub pages : t .pages ≡ u .pages
   pub roots : t .roots ≡ u .roots
 
 pub agrees-beside : {run : Run} {new : ℕ → ℕ} {spare : List ℕ} {live : List LiveBuffer} {u t : Tables} {s : Judge} (new′ : ℕ → ℕ) →
-    Agrees run new spare live u s → Beside u t → ((x : ℕ) → x % u .page ≡ 0 → spansAt t x + new′ x ≡ spansAt u x + new x) → Agrees run new′ spare live t s
+    Agrees run new spare live u s → Beside u t → ((x : ℕ) → x % u .fields .page ≡ 0 → spansAt t x + new′ x ≡ spansAt u x + new x) → Agrees run new′ spare live t s
 agrees-beside new′ g b covers =
     record {
       runs = g .runs;
@@ -49,7 +49,7 @@ agrees-beside new′ g b covers =
 
 -- what is mapped in no table's range may be said in another way
 pub agrees-as : {run : Run} {new : ℕ → ℕ} {spare : List ℕ} {live : List LiveBuffer} {t : Tables} {s : Judge} (new′ : ℕ → ℕ) →
-    Agrees run new spare live t s → ((x : ℕ) → x % t .page ≡ 0 → new x ≡ new′ x) → Agrees run new′ spare live t s
+    Agrees run new spare live t s → ((x : ℕ) → x % t .fields .page ≡ 0 → new x ≡ new′ x) → Agrees run new′ spare live t s
 agrees-as new′ g same =
     agrees-beside new′ g (record { page = refl; va = refl; counter = refl; pages = refl; roots = refl }) (λ x e. omega (arith, same x e))
 
@@ -60,7 +60,7 @@ agrees-holes {new = new} l g = agrees-beside new g (record { page = refl; va = r
 
 -- the counter's id is recorded
 pub agrees-counted : {run : Run} {new : ℕ → ℕ} {spare : List ℕ} {live : List LiveBuffer} {t : Tables} {s : Judge} → Agrees run new spare live t s →
-    Agrees run new spare live (withCounter (t .counter + 1) t) (withLast s (t .counter))
+    Agrees run new spare live (withCounter (t .fields .counter + 1) t) (withLast s (t .fields .counter))
 agrees-counted {t = t} g =
     record {
       runs = g .runs;
@@ -73,7 +73,7 @@ agrees-counted {t = t} g =
       active = g .active;
       owned = g .owned;
       buffers = g .buffers;
-      last = rw (last-next (t .counter));
+      last = rw (last-next (t .fields .counter));
     }
 
 -- the judge knows of other live buffers

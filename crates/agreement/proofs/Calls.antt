@@ -1,15 +1,17 @@
--- Each call, from what stands before it to what stands after it: the judge accepts the call's line, its records and its result. Assumes nothing.
+-- Each call, from what stands before it to what stands after it: the judge accepts the call's line, its records and its result.
 use mathlib.Core.Path.{_≡_, refl, ap, sym, _∙_, subst}
 use mathlib.Core.Bool.{Bool, true, false, cond, _||_, not, false≢true}
 use mathlib.Core.List.{[], _∷_, map}
-use Prim.Native.Nat.{ℕ, _^_}
+use Prim.Native.Nat.{ℕ}
 use lib.Dec.{ltb, leb, eqb}
 use Rattle.lists.proofs.Tests.{neither}
+use Rattle.tables.specs.Bounds.{IDS, LOG}
 use Rattle.tables.specs.Values.{Tables, opened, closed, stopped, poolOf, atEntry}
 use Rattle.tables.specs.Outcomes.{numbers, is}
 use Rattle.tables.specs.Steps.{Went}
 use Rattle.tables.specs.WellFormed.{wellFormed}
 use Rattle.tables.specs.HandsBack.{Reply, refused, outcomeOf, poolAfter, finished, admitted}
+use Rattle.tables.specs.Calls.{Call}
 use Rattle.tables.specs.declared.Pool.{Pool}
 use Rattle.tables.specs.declared.Outcome.{Outcome}
 use Rattle.tables.specs.declared.Outcome.the-variants.{PoolClosed, PoolStopped, NotWellFormed, ShortLog, IdsSpent}
@@ -17,12 +19,11 @@ use Rattle.trace.specs.Kinds.{ofRecord, resultLine}
 use Rattle.keeping.specs.Sound.{Left}
 use Rattle.keeping.proofs.Kept.{left-by}
 use Rattle.keeping.proofs.WellFormedLeaves.{read-back, well-formed}
-use Rattle.judging.specs.Rules.{Judge}
-use Rattle.judging.specs.Verdict as Verdict
-use Rattle.judging.specs.declared.Run.{Run}
-use Rattle.printing.specs.Traced.{resultOf}
-use Rattle.agreement.specs.Runs as Runs
-use Rattle.agreement.specs.Runs.{lineOf, entry}
+use Rattle.judge_rules.specs.Rules.{Judge}
+use Rattle.judge_rules.specs.Verdict as Verdict
+use Rattle.judge_rules.specs.declared.Run.{Run}
+use Rattle.replay_lines.specs.Traced.{lineOf, resultOf}
+use Rattle.agreement.specs.Runs.{entry}
 use Rattle.agreement.specs.Agrees.{Inside, Ended}
 use Rattle.agreement.specs.Judges.{next, Reach, Fair, addresses, excused}
 use Rattle.agreement.proofs.Entries.{step-result, fair-records, reach-entry}
@@ -40,7 +41,7 @@ use Rattle.agreement.proofs.Standing.{
 }
 
 -- What is to be shown of a call that answers `r`, where it enters a trace: not 17, and by premise not 15.
-abbrev pub Read : Runs.Call → Pool → Judge → Reply → Type 0
+abbrev pub Read : Call → Pool → Judge → Reply → Type 0
 Read c p s r = excused (r .outcome) ≡ false → Fair (addresses (s .mapped)) (entry (lineOf c) r) → Reach s (entry (lineOf c) r) (Standing (r .pool))
 
 module _ (p : Pool) (s : Judge) (h : Stands p s) where
@@ -55,10 +56,10 @@ module _ (p : Pool) (s : Judge) (h : Stands p s) where
   entry-tables = ap atEntry (h .pool) ∙ read-back (h .lost) opened (h .tables) (h .kept .sound)
 
   -- 4 and 5 leave an open pool as it is; 1, 2 and 3 don't occur
-  pub admitted-read : (c : Runs.Call) (log : ℕ) (r : Reply) → Read c p s r → Read c p s (admitted p log r)
+  pub admitted-read : (c : Call) (log : ℕ) (r : Reply) → Read c p s r → Read c p s (admitted p log r)
   unfolding admitted
   admitted-read c log r f =
-      go (eqb (p .state) closed) (eqb (p .state) stopped) (not (wellFormed p)) (ltb log 2048) (leb (2 ^ 62) (p .counter))
+      go (eqb (p .state) closed) (eqb (p .state) stopped) (not (wellFormed p)) (ltb log LOG) (leb IDS (p .counter))
       (ap (λ x. eqb x closed) state-open) (ap (λ x. eqb x stopped) state-open) (ap not formed)
     where
       go : (a b d e g : Bool) → a ≡ false → b ≡ false → d ≡ false →
@@ -71,7 +72,7 @@ module _ (p : Pool) (s : Judge) (h : Stands p s) where
       go false false false false false x y z = f
 
 -- A result with answer 0, of a judge that is inside the call `c`.
-module _ (c : Runs.Call) (s y : Judge) (same : y .run ≡ calling c s .run) (over : s .run .over ≡ false) where
+module _ (c : Call) (s y : Judge) (same : y .run ≡ calling c s .run) (over : s .run .over ≡ false) where
   call-is : y .run .asked .call ≡ callOf c
   call-is = ap (λ (r : Run). r .asked .call) same
 
@@ -89,7 +90,7 @@ module _ (c : Runs.Call) (s y : Judge) (same : y .run ≡ calling c s .run) (ove
       }
 
 -- An early end that is not excused: its number is not 0, and the pool is kept.
-pub ended-read : (c : Runs.Call) (p : Pool) (s y : Judge) (o : Outcome) (lost : ℕ → ℕ) (t : Tables) → s .run .over ≡ false → Left lost o t → Ended (calling c s .run) o t y → excused o ≡ false →
+pub ended-read : (c : Call) (p : Pool) (s y : Judge) (o : Outcome) (lost : ℕ → ℕ) (t : Tables) → s .run .over ≡ false → Left lost o t → Ended (calling c s .run) o t y → excused o ≡ false →
     Reach y (resultOf (numbers o) ∷ []) (Standing (poolAfter p t o))
 ended-read c p s y o lost t over left e x =
     let n = neither (is 0 o) (is 14 o) (e .0) in
@@ -109,7 +110,7 @@ ended-read c p s y o lost t over left e x =
     }))
 
 -- A call that went: its line leads into it, then its records and its result are read.
-pub finished-read : (c : Runs.Call) (p : Pool) (s : Judge) → Stands p s → (w : Went Outcome) →
+pub finished-read : (c : Call) (p : Pool) (s : Judge) → Stands p s → (w : Went Outcome) →
     (excused (outcomeOf (w .ending)) ≡ false → Fair (addresses (calling c s .mapped)) (map ofRecord (w .records)) →
     Reach (calling c s) (map ofRecord (w .records)) (λ y. Reach y (resultOf (numbers (outcomeOf (w .ending))) ∷ []) (Standing (poolAfter p (w .tables) (outcomeOf (w .ending)))))) →
     Read c p s (finished p w)

@@ -1,5 +1,5 @@
 -- The records of a close are accepted. Its first record has ended all live buffers; each zombie's range is then unmapped, then each active page is unmapped and
--- its handle, under which no other page lies, released; nothing is mapped when the reservations are given back. Assumes nothing.
+-- its handle, under which no other page lies, released; nothing is mapped when the reservations are given back.
 use mathlib.Core.Path.{_≡_, refl, ap}
 use mathlib.Core.Bool.{true, false, not, _&&_}
 use mathlib.Core.List.{List, [], _∷_}
@@ -23,10 +23,10 @@ use Rattle.keeping.specs.Cover.{within, coverZombies, handlesAt}
 use Rattle.keeping.specs.Sound.{none, WholeRange, Kept}
 use Rattle.keeping.proofs.Cover.{equal-same}
 use Rattle.keeping.proofs.Counting.{none-counted, Parted, once-parted}
-use Rattle.judging.specs.Rules.{Judge, isIn, isUnder, noneLive, R4, R5, R10}
-use Rattle.judging.specs.Verdict as Verdict
-use Rattle.judging.specs.declared.Run.{Run}
-use Rattle.judging.specs.declared.Call.the-variants.{Close}
+use Rattle.judge_rules.specs.Rules.{Judge, isIn, isUnder, noneLive, R4, R5, R10}
+use Rattle.judge_rules.specs.Verdict as Verdict
+use Rattle.judge_rules.specs.declared.Run.{Run}
+use Rattle.judge_rules.specs.declared.Call.the-variants.{Close}
 use Rattle.agreement.specs.Agrees.{SameBy, reservation, Inside, Agreeing}
 use Rattle.agreement.specs.Judges.{Judges}
 use Rattle.agreement.proofs.Judges.{judges-from, judges-to, judges-then, judges-known, judges-each, judges-given}
@@ -208,7 +208,7 @@ module _ (run : Run) (inside : Inside run) (asked : run .asked .call ≡ Close) 
   judges-closeSteps lost u k {E} =
       judges-from (λ t s q. (q .1 .page, (q .0, begins s (q .1)))) (judges-given known)
     where
-      begins : (s : Judge) → Agreeing run none [] u s → Closing (u .page) (u .va) (u .zombies) (u .pages) (u .pages) (u .roots) s
+      begins : (s : Judge) → Agreeing run none [] u s → Closing (u .fields .page) (u .fields .va) (u .zombies) (u .pages) (u .pages) (u .roots) s
       begins s g =
           record {
             runs = g .runs;
@@ -225,13 +225,13 @@ module _ (run : Run) (inside : Inside run) (asked : run .asked .call ≡ Close) 
             handles = k .sound .handlesOnce;
             reservations = g .reservations;
             roots =
-                pairs-implies (Parted (λ (a : Address). a .0) (λ a. u .va)) (λ a b. b .0 ≡ a .0 → ⊥) (λ a b q e. omega (arith, q, e, k .sound .va .positive))
-                (u .roots) (once-parted (λ (a : Address). a .0) (λ a. u .va) (u .roots) (k .sound .rootsOnce));
+                pairs-implies (Parted (λ (a : Address). a .0) (λ a. u .fields .va)) (λ a b. b .0 ≡ a .0 → ⊥) (λ a b q e. omega (arith, q, e, k .sound .va .positive))
+                (u .roots) (once-parted (λ (a : Address). a .0) (λ a. u .fields .va) (u .roots) (k .sound .rootsOnce));
           }
 
-      known : (size : run .page ≡ u .page) →
-          Judges (λ t s. (t ≡ u) × Closing (u .page) (u .va) (u .zombies) (u .pages) (u .pages) (u .roots) s) closeSteps (λ _ t s. s .run ≡ run) E
+      known : (size : run .page ≡ u .fields .page) →
+          Judges (λ t s. (t ≡ u) × Closing (u .fields .page) (u .fields .va) (u .zombies) (u .pages) (u .pages) (u .roots) s) closeSteps (λ _ t s. s .run ≡ run) E
       known size =
           judges-known u (λ w e. rw e
           (judges-from (λ t s q. q .1) (judges-to (λ _ t s c. c .runs)
-          (closes (u .page) (u .va) size (k .sound .page) (u .zombies) (u .pages) (u .roots)))))
+          (closes (u .fields .page) (u .fields .va) size (k .sound .page) (u .zombies) (u .pages) (u .roots)))))

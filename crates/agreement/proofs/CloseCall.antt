@@ -1,26 +1,27 @@
--- A close: refused with 4 where the log is short, or done; then its result ends the run. Assumes nothing.
+-- A close: refused with 4 where the log is short, or done; then its result ends the run.
 use mathlib.Core.Path.{_≡_, refl, ap, sym, subst}
 use mathlib.Core.Bool.{Bool, true, false, cond, not, false≢true}
 use mathlib.Core.List.{List, [], _∷_, map}
 use Prim.Native.Nat.{ℕ}
 use lib.Dec.{ltb, eqb}
 use Rattle.words.specs.declared.Record.{Record}
+use Rattle.tables.specs.Bounds.{LOG}
 use Rattle.tables.specs.Values.{Tables, closed, atEntry, closedPool}
 use Rattle.tables.specs.Outcomes.{numbers}
 use Rattle.tables.specs.Steps.{Ending, on, ends, Went}
 use Rattle.tables.specs.WellFormed.{wellFormed}
 use Rattle.tables.specs.HandsBack.{refused}
 use Rattle.tables.specs.Close.{closeSteps, failures, closeFinished, close}
+use Rattle.tables.specs.Calls.{closes}
 use Rattle.tables.specs.declared.Pool.{Pool}
 use Rattle.tables.specs.declared.Outcome.the-variants.{Closed, PoolClosed, NotWellFormed, ShortLog}
 use Rattle.trace.specs.Kinds.{ofRecord, closeLine}
-use Rattle.spare.proofs.Calls.{closed-records}
-use Rattle.judging.specs.Rules.{Judge}
-use Rattle.judging.specs.Verdict.{told, answered}
-use Rattle.judging.specs.Verdict as Verdict
-use Rattle.judging.specs.declared.Run.{Run}
-use Rattle.printing.specs.Traced.{resultOf}
-use Rattle.agreement.specs.Runs.{closes}
+use Rattle.spare_answers.proofs.Calls.{closed-records}
+use Rattle.judge_rules.specs.Rules.{Judge}
+use Rattle.judge_rules.specs.Verdict.{told, answered}
+use Rattle.judge_rules.specs.Verdict as Verdict
+use Rattle.judge_rules.specs.declared.Run.{Run}
+use Rattle.replay_lines.specs.Traced.{resultOf}
 use Rattle.agreement.specs.Judges.{Reach, Fair, addresses, excused, Reached}
 use Rattle.agreement.proofs.Close.{judges-closeSteps}
 use Rattle.agreement.proofs.Entries.{fair-records, reach-entry}
@@ -63,7 +64,7 @@ module _ (p : Pool) (s : Judge) (h : Stands p s) where
   pub close-read : (xs : List ℕ) (log : ℕ) → Read closes p s (close p xs log)
   unfolding close
   close-read xs log =
-      go (eqb (p .state) closed) (not (wellFormed p)) (ltb log 2048) (ap (λ x. eqb x closed) (state-open p s h)) (ap not (formed p s h))
+      go (eqb (p .state) closed) (not (wellFormed p)) (ltb log LOG) (ap (λ x. eqb x closed) (state-open p s h)) (ap not (formed p s h))
     where
       w : Went (Unit {0})
       w = closeSteps xs 0 (atEntry p)

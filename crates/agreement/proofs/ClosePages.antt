@@ -1,5 +1,5 @@
 -- The pages that a close finds mapped: those that the active pages and some ranges beside them hold, each once. An unmap of one of the ranges takes away
--- just its pages, and where no range is left a mapped page has the handle of its active page. Assumes nothing.
+-- just its pages, and where no range is left a mapped page has the handle of its active page.
 use mathlib.Core.Path.{_≡_, refl, ap, sym, _∙_}
 use mathlib.Core.Bool.{true, false, not}
 use mathlib.Core.List.{List, [], _∷_}
@@ -14,8 +14,8 @@ use Rattle.keeping.specs.Cover.{within, equal, pagesAt}
 use Rattle.keeping.specs.Sound.{none, Whole, WholeRange}
 use Rattle.keeping.proofs.Cover.{within-in, equal-same, equal-positive}
 use Rattle.keeping.proofs.Whole.{within-page}
-use Rattle.judging.specs.Ranges.{inside}
-use Rattle.judging.specs.Rules.{Page, isUnder, wholePages}
+use Rattle.judge_rules.specs.Ranges.{inside}
+use Rattle.judge_rules.specs.Rules.{Page, isUnder, wholePages}
 use Rattle.agreement.specs.Agrees.{mapping, mappedAt}
 use Rattle.agreement.proofs.Meets.{whole-mapped}
 use Rattle.agreement.proofs.Counted.{counted-once, inside-none, mapped-without, under-none}

@@ -1,5 +1,5 @@
 -- What is counted: elements that are counted once are one; an unmap takes away the pages that its range covers; a handle that no mapped page has is under
--- none. Assumes nothing.
+-- none.
 use mathlib.Core.Path.{_≡_, refl, ap, sym, _∙_}
 use mathlib.Core.Logic.{inl, inr, ⊎-elim}
 use mathlib.Core.Bool.{Bool, true, false, not}
@@ -13,9 +13,9 @@ use Rattle.lists.proofs.Tests.{cases-lt}
 use Rattle.keeping.specs.Cover.{within, equal, keysAt}
 use Rattle.keeping.proofs.Cover.{within-in, within-out, equal-same}
 use Rattle.keeping.proofs.Counting.{count-dropped, count-kept}
-use Rattle.judging.specs.Ranges.{inside}
-use Rattle.judging.specs.Rules.{Page, isUnder}
-use Rattle.judging.proofs.Laws.{inside-is, is-inside}
+use Rattle.judge_rules.specs.Ranges.{inside}
+use Rattle.judge_rules.specs.Rules.{Page, isUnder}
+use Rattle.judge_rules.proofs.PageLaws.{inside-is, is-inside}
 use Rattle.agreement.specs.Agrees.{mappedAt}
 
 -- what is counted once is one

@@ -1,4 +1,4 @@
--- An entry of a trace, a call's line, its records and its result: what each of the two outer lines does to the judge. Assumes nothing.
+-- An entry of a trace, a call's line, its records and its result: what each of the two outer lines does to the judge.
 use mathlib.Core.Path.{_≡_, _∙_}
 use mathlib.Core.Bool.{true, false, cond}
 use mathlib.Core.List.{List, [], _∷_, _++_}
@@ -7,11 +7,11 @@ use lib.Dec.{eqb}
 use Rattle.trace.specs.Kinds.{mallocLine, freeLine, closeLine, resultLine}
 use Rattle.trace.specs.declared.Line.{Line}
 use Rattle.trace.specs.declared.Reading.the-variants.{Good}
-use Rattle.judging.specs.Said.{said}
-use Rattle.judging.specs.Rules.{Judge, R0}
-use Rattle.judging.specs.Verdict as Verdict
-use Rattle.judging.specs.declared.Run.{Run}
-use Rattle.judging.specs.declared.Call.the-variants.{Malloc, Free, Close}
+use Rattle.judge_rules.specs.Said.{said}
+use Rattle.judge_rules.specs.Rules.{Judge, R0}
+use Rattle.judge_rules.specs.Verdict as Verdict
+use Rattle.judge_rules.specs.declared.Run.{Run}
+use Rattle.judge_rules.specs.declared.Call.the-variants.{Malloc, Free, Close}
 use Rattle.agreement.specs.Agrees.{Inside}
 use Rattle.agreement.specs.Judges.{read, Reach, Fair, addresses}
 use Rattle.agreement.proofs.Reading.{read-append, fair-first, fair-second}

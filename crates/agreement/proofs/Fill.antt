@@ -1,4 +1,4 @@
--- Fill: nothing is read where the new region is enough; else regions are pulled into what is left of the range. Assumes nothing.
+-- Fill: nothing is read where the new region is enough; else regions are pulled into what is left of the range.
 use mathlib.Core.Path.{_≡_, refl}
 use mathlib.Core.Logic.{inl}
 use mathlib.Core.List.{[], _∷_}
@@ -7,6 +7,7 @@ use Prim.Native.Nat.{ℕ, _-_}
 use native.Mathlib.Omega.{arith}
 use borrow.Author.Tests.{leb-false}
 use lib.Dec.{leb}
+use Rattle.tables.specs.Bounds.{SPANS}
 use Rattle.tables.specs.NewPages.{Room}
 use Rattle.tables.specs.MakeRoom.{fill}
 use Rattle.tables.specs.declared.FreeRegion.{FreeRegion}
@@ -27,7 +28,7 @@ use Rattle.keeping.proofs.Fill.{
   fills-rest,
 }
 use Rattle.keeping.proofs.MakeRoom.{Dropped, Roomed, filled-roomed, newly-dropped}
-use Rattle.judging.specs.declared.Run.{Run}
+use Rattle.judge_rules.specs.declared.Run.{Run}
 use Rattle.agreement.specs.Agrees.{Serving, Agreeing, Ends}
 use Rattle.agreement.specs.Judges.{Judges}
 use Rattle.agreement.proofs.Judges.{judges-from, judges-to, judges-ends, judges-given, judges-and, judges-give, judges-looked-at, judges-cond}
@@ -41,7 +42,7 @@ module _ {run : Run} (serving : Serving run) (lost : ℕ → ℕ) (p f : ℕ) (o
       judges-looked-at (λ u w.
       judges-from (λ t s q. (rw (q .0) (all-due lost p f o g z u w), rw (q .0) (q .1)))
       (judges-to (λ r t s q. q .1)
-      (judges-pullIn serving lost S.none p (o .size) 127 [] (u .free) o (all-range lost p f o g z) (inl (omega arith)))))
+      (judges-pullIn serving lost S.none p (o .size) (SPANS - 1) [] (u .free) o (all-range lost p f o g z) (inl (omega arith)))))
 
   -- pages were missing: what else was free is pulled behind them
   agrees-rest : (r : FreeRegion) → Judges (λ t s. Newly lost p f o r t × Agreeing run S.none [] t s) (fill o (some r)) (λ _. Agreeing run S.none []) (Ends run lost)
@@ -54,7 +55,7 @@ module _ {run : Run} (serving : Serving run) (lost : ℕ → ℕ) (p f : ℕ) (o
       let short = leb-false (o .size) (r .size) e in
       judges-from (λ t s q. (rw (q .0) (behind-due lost p f o g r u w short), rw (q .0) (q .1)))
       (judges-to (λ r t s q. q .1)
-      (judges-pullIn serving lost (left lost p f o g r u w short) p (lacks lost p f o g r u w short) 128 (r ∷ []) (others lost p f o g r u w short) o
+      (judges-pullIn serving lost (left lost p f o g r u w short) p (lacks lost p f o g r u w short) SPANS (r ∷ []) (others lost p f o g r u w short) o
       (behind-range lost p f o g r u w short) (behind-spare lost p f o g r u w short)))))
 
   pub judges-fill : (x : Option FreeRegion) → Judges (λ t s. Ready lost p f o x t × Agreeing run S.none [] t s) (fill o x)

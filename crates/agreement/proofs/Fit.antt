@@ -1,4 +1,4 @@
--- Fit: the events of free regions were recorded, so they may be asked for; a region taken over by another stream lies where it lay. Assumes nothing.
+-- Fit: the events of free regions were recorded, so they may be asked for; a region taken over by another stream lies where it lay.
 use mathlib.Core.Path.{_≡_, refl}
 use mathlib.Core.Bool.{Bool, true, false, cond}
 use mathlib.Core.List.{List, [], _∷_, map}
@@ -18,8 +18,8 @@ use Rattle.keeping.specs.Cover.{within, coverFree}
 use Rattle.keeping.specs.Sound.{none, Kept, Left}
 use Rattle.keeping.specs.Counts.{Few, Known}
 use Rattle.keeping.proofs.Fit.{Fitted, fits}
-use Rattle.judging.specs.Rules.{Judge}
-use Rattle.judging.specs.declared.Run.{Run}
+use Rattle.judge_rules.specs.Rules.{Judge}
+use Rattle.judge_rules.specs.declared.Run.{Run}
 use Rattle.agreement.specs.Agrees.{Serving, Agreeing}
 use Rattle.agreement.specs.Judges.{Judges}
 use Rattle.agreement.proofs.Judges.{judges-from, judges-named, judges-and, judges-then, judges-give, judges-known, judges-change}
@@ -39,7 +39,7 @@ cover-taken s r (q ∷ l) x = omega (arith, same (eqb (from q) (from r)), cover-
     same false = refl
 
 module _ {run : Run} (serving : Serving run) {E : Outcome → Tables → Judge → Type 0} where
-  asks-all : (u : Tables) (v : Judge) → Agreeing run none [] u v → (l : List FreeRegion) → All (λ r. r .id .0 < u .counter) l →
+  asks-all : (u : Tables) (v : Judge) → Agreeing run none [] u v → (l : List FreeRegion) → All (λ r. r .id .0 < u .fields .counter) l →
       Judges (λ t s. (t ≡ u) × (s ≡ v)) (askAll l) (λ _ t s. (t ≡ u) × (s ≡ v)) E
   asks-all u v g [] known = judges-give []
   asks-all u v g (r ∷ l) known =
@@ -54,7 +54,7 @@ module _ {run : Run} (serving : Serving run) {E : Outcome → Tables → Judge �
       (judges-change _ (λ t s g. agrees-beside none g (record { page = refl; va = refl; counter = refl; pages = refl; roots = refl })
       (λ x e. omega (arith, cover-taken n r (t .free) x)))) (λ _. judges-give (some (onStream n r)))
 
-  other : (n : ℕ) (u : Tables) (v : Judge) → Agreeing run none [] u v → (l : List FreeRegion) → All (λ r. r .id .0 < u .counter) l → (o : Option FreeRegion) →
+  other : (n : ℕ) (u : Tables) (v : Judge) → Agreeing run none [] u v → (l : List FreeRegion) → All (λ r. r .id .0 < u .fields .counter) l → (o : Option FreeRegion) →
       Judges (λ t s. (t ≡ u) × (s ≡ v)) (orOther n l o) (λ _. Agreeing run none []) E
   unfolding orOther
   other n u v g l known (some r) = judges-from (λ t s q. rw (q .0, q .1) g) (judges-give (some r))

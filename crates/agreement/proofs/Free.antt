@@ -1,5 +1,4 @@
 -- Free, as far as its record goes: the buffer's pages are free ones, while the judge knows it as live until the result. R8 is met, since it was live.
--- Assumes nothing.
 use mathlib.Core.Path.{_≡_, refl, sym}
 use mathlib.Core.Bool.{Bool, true, _&&_}
 use mathlib.Core.List.{List, []}
@@ -21,8 +20,8 @@ use Rattle.keeping.specs.Sound.{none, Kept}
 use Rattle.keeping.proofs.Counts.{few-ceilings}
 use Rattle.keeping.proofs.InsertFree.{Inserting, Inserted, inserts-free-and}
 use Rattle.keeping.proofs.FreeCall.{inserting}
-use Rattle.judging.specs.Rules.{Judge, R8}
-use Rattle.judging.specs.declared.Run.{Run}
+use Rattle.judge_rules.specs.Rules.{Judge, R8}
+use Rattle.judge_rules.specs.declared.Run.{Run}
 use Rattle.agreement.specs.Agrees.{Serving, Agrees, Agreeing}
 use Rattle.agreement.specs.Judges.{Judges}
 use Rattle.agreement.proofs.Judges.{judges-from, judges-to, judges-ends, judges-named, judges-and, judges-then, judges-give, judges-change}
@@ -66,13 +65,13 @@ module _ {run : Run} (serving : Serving run) (lost : ℕ → ℕ) (b : LiveBuffe
       let a = b .start .0 in
       let l = without (λ c. c .start .0) a (u .live) in
       let R : Tables → Type 0 = λ t. t .live ≡ l in
-      judges-then (λ _ t s. (Inserting lost none none (u .page) (bytes (u .free)) a (b .size) (u .free) t × R t) × Agrees run (λ x. none x + within a (b .size) x) [] (u .live) t s)
+      judges-then (λ _ t s. (Inserting lost none none (u .fields .page) (bytes (u .free)) a (b .size) (u .free) t × R t) × Agrees run (λ x. none x + within a (b .size) x) [] (u .live) t s)
       (judges-change _ (λ t s e. rw (e .0, e .1) ((inserting b u (q .0 .0) (q .0 .1), refl), out u v (q .0 .0) (q .0 .1) (q .1)))) (λ _.
-      judges-then (λ r t s. (Inserted lost none none (u .page) (bytes (u .free)) a (b .size) (b .stream) (u .free) r t × R t) × Agrees run none [] (u .live) t s)
+      judges-then (λ r t s. (Inserted lost none none (u .fields .page) (bytes (u .free)) a (b .size) (b .stream) (u .free) r t × R t) × Agrees run none [] (u .live) t s)
       (judges-ends (λ o t s e. e .1 .1)
       (judges-to (λ r t s h. (h .0, h .1 .1))
-      (judges-and (inserts-free-and R (λ k c t e. e) lost none none (u .page) (bytes (u .free)) a (b .size) (b .stream) (u .free))
-      (judges-from (λ t s h. (h .0 .0, h .1)) (judges-insertFree serving lost none none none (u .page) (bytes (u .free)) a (b .size) (b .stream) (u .free) [] (u .live)))))) (λ r.
+      (judges-and (inserts-free-and R (λ k c t e. e) lost none none (u .fields .page) (bytes (u .free)) a (b .size) (b .stream) (u .free))
+      (judges-from (λ t s h. (h .0 .0, h .1)) (judges-insertFree serving lost none none none (u .fields .page) (bytes (u .free)) a (b .size) (b .stream) (u .free) [] (u .live)))))) (λ r.
       judges-from (λ t s h. (
         record { sound = h .0 .0 .sound; ceilings = few-ceilings (omega arith) (h .0 .0 .few) },
         record { outcome = refl; before = u .live; member = q .0 .1; live = h .0 .1; agrees = h .1 },

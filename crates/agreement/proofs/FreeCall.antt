@@ -1,4 +1,4 @@
--- A free: refused with 16 where no live buffer starts there, or done; then its result takes the buffer out of the judge's live ones. Assumes nothing.
+-- A free: refused with 16 where no live buffer starts there, or done; then its result takes the buffer out of the judge's live ones.
 use mathlib.Core.Path.{_≡_, refl, ap, sym, _∙_, subst}
 use mathlib.Core.Bool.{Bool, true, false, cond, not}
 use mathlib.Core.List.{List, [], _∷_, map}
@@ -15,6 +15,7 @@ use Rattle.tables.specs.Outcomes.{numbers}
 use Rattle.tables.specs.Steps.{Ending, on, ends, Went}
 use Rattle.tables.specs.HandsBack.{outcomeOf, poolAfter, finished}
 use Rattle.tables.specs.Free.{freeSteps, freeFound, free}
+use Rattle.tables.specs.Calls.{frees}
 use Rattle.tables.specs.declared.LiveBuffer.{LiveBuffer}
 use Rattle.tables.specs.declared.Pool.{Pool}
 use Rattle.tables.specs.declared.Outcome.{Outcome}
@@ -22,13 +23,12 @@ use Rattle.tables.specs.declared.Outcome.the-variants.{InvalidPointer}
 use Rattle.trace.specs.Kinds.{ofRecord}
 use Rattle.trace.specs.declared.Line.{Line}
 use Rattle.keeping.specs.Sound.{Kept}
-use Rattle.judging.specs.Rules.{Judge}
-use Rattle.judging.specs.Verdict.{told, freed, answered, ruled}
-use Rattle.judging.specs.Verdict as Verdict
-use Rattle.judging.specs.declared.Run.{Run}
-use Rattle.judging.specs.declared.Call.the-variants.{Free}
-use Rattle.printing.specs.Traced.{resultOf}
-use Rattle.agreement.specs.Runs.{frees}
+use Rattle.judge_rules.specs.Rules.{Judge}
+use Rattle.judge_rules.specs.Verdict.{told, freed, answered, ruled}
+use Rattle.judge_rules.specs.Verdict as Verdict
+use Rattle.judge_rules.specs.declared.Run.{Run}
+use Rattle.judge_rules.specs.declared.Call.the-variants.{Free}
+use Rattle.replay_lines.specs.Traced.{resultOf}
 use Rattle.agreement.specs.Agrees.{SameBy, buffer, Serving}
 use Rattle.agreement.specs.Judges.{Reach, Fair, addresses, excused, Reached}
 use Rattle.agreement.proofs.Same.{same-filter}

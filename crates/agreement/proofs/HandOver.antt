@@ -1,5 +1,5 @@
 -- The hand-over: nothing is read, and what leaves the free table joins the live one, so the same pages are mapped. The judge's live buffers are still
--- those before it: its own is added by the result. Assumes nothing.
+-- those before it: its own is added by the result.
 use mathlib.Core.Path.{_≡_, refl, ap, sym, subst}
 use mathlib.Core.List.{List, []}
 use Prim.Native.Nat.{ℕ}
@@ -15,8 +15,8 @@ use Rattle.tables.specs.declared.Outcome.the-variants.{Allocated}
 use Rattle.keeping.specs.Sound.{none, Sound, Kept}
 use Rattle.keeping.specs.Malloc.{Handing}
 use Rattle.keeping.proofs.HandOver.{hands-over}
-use Rattle.judging.specs.Rules.{Judge}
-use Rattle.judging.specs.declared.Run.{Run}
+use Rattle.judge_rules.specs.Rules.{Judge}
+use Rattle.judge_rules.specs.declared.Run.{Run}
 use Rattle.agreement.specs.Agrees.{Agrees, Agreeing}
 use Rattle.agreement.specs.Judges.{Judges}
 use Rattle.agreement.proofs.Judges.{judges-from, judges-to, judges-named, judges-and, judges-then, judges-give, judges-change}

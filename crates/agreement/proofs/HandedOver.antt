@@ -1,5 +1,5 @@
 -- R7 of a malloc's result: the pages of the buffer are mapped, no live buffer lies over them, and no handle is under two of all these pages, since each
--- is active and handles are distinct. Assumes nothing.
+-- is active and handles are distinct.
 use mathlib.Core.Path.{_≡_, refl, ap, sym, _∙_, subst}
 use mathlib.Core.Logic.{⊎-elim}
 use mathlib.Core.Bool.{Bool, true, false, _&&_, _||_, not}
@@ -22,10 +22,10 @@ use Rattle.keeping.specs.Cover.{within, equal, coverFree, coverLive}
 use Rattle.keeping.specs.Sound.{none, WholeRange, Sound}
 use Rattle.keeping.proofs.Cover.{within-in, equal-positive}
 use Rattle.keeping.proofs.Sounds.{sound-once}
-use Rattle.judging.specs.Ranges.{inside}
-use Rattle.judging.specs.Rules.{Page, Judge, wholePages, noneLive, inBuffers, alone, noHandleTwice, R7}
-use Rattle.judging.specs.declared.Run.{Run}
-use Rattle.judging.proofs.Laws.{inside-is}
+use Rattle.judge_rules.specs.Ranges.{inside}
+use Rattle.judge_rules.specs.Rules.{Page, Judge, wholePages, noneLive, inBuffers, alone, noHandleTwice, R7}
+use Rattle.judge_rules.specs.declared.Run.{Run}
+use Rattle.judge_rules.proofs.PageLaws.{inside-is}
 use Rattle.agreement.specs.Agrees.{mapping, buffer, mappedAt, Agrees}
 use Rattle.agreement.proofs.Same.{same-any-back, any-is}
 use Rattle.agreement.proofs.Meets.{whole-mapped, none-live}
@@ -47,7 +47,7 @@ module _ {run : Run} {lost : ℕ → ℕ} {live : List LiveBuffer} {t : Tables} 
       (k : Pool.Page) × (Member k (t .pages) × (mapping k ≡ q))
   is-active q m h =
       let x = q .at in
-      let e : x % t .page ≡ 0 = member-all _ q (s .mapped) m (g .aligned) in
+      let e : x % t .fields .page ≡ 0 = member-all _ q (s .mapped) m (g .aligned) in
       let r = member-sum (λ (k : Pool.Page). equal (k .start .0) x) (t .pages) (omega (arith, w .pagesMatch x e)) in
       let here : mapping (r .0) .at ≡ x = equal-positive (r .0 .start .0) x (r .1 .1) in
       let once : mappedAt (s .mapped) x ≤ 1 = omega (arith, g .mapped x e, sound-once w x) in
@@ -70,9 +70,9 @@ module _ {run : Run} {lost : ℕ → ℕ} {n k : ℕ} {o : Outcome} {t : Tables}
   covers : (x : ℕ) → coverLive (t .live) x ≡ within a n x + coverLive (d .before) x
   covers x = ap (λ l. coverLive l x) (d .live) ∙ sum-put (λ b. b .start .0) (λ b. within (b .start .0) (b .size) x) (Values.buffer a n k) (d .before)
 
-  range : WholeRange (t .page) a n
+  range : WholeRange (t .fields .page) a n
   range =
-      member-all (λ b. WholeRange (t .page) (b .start .0) (b .size)) (Values.buffer a n k) (t .live)
+      member-all (λ b. WholeRange (t .fields .page) (b .start .0) (b .size)) (Values.buffer a n k) (t .live)
       (subst (Member (Values.buffer a n k)) (sym (d .live)) (put-member (λ b. b .start .0) (Values.buffer a n k) (d .before))) (w .live)
 
   -- an address in the buffer or in a live one
@@ -116,10 +116,10 @@ module _ {run : Run} {lost : ℕ → ℕ} {n k : ℕ} {o : Outcome} {t : Tables}
   pub meets-malloc : s .run .asked .first ≡ n → R7 s a n ≡ true
   unfolding R7
   meets-malloc e =
-      let page : s .run .page ≡ t .page = ap (λ (r : Run). r .page) (d .agrees .runs) ∙ d .agrees .page in
-      let whole = whole-mapped (t .page) a n (s .mapped) (w .page) range (λ x z p q. omega (arith, d .agrees .mapped x z, covers x, within-in a n x p q)) in
-      let before : All (λ b. WholeRange (t .page) (b .start .0) (b .size)) (d .before) =
-      all-members _ (d .before) (λ b m. member-all (λ c. WholeRange (t .page) (c .start .0) (c .size)) b (t .live) (subst (Member b) (sym (d .live)) (put-keeps (λ c. c .start .0) b (Values.buffer a n k) (d .before) m)) (w .live)) in
-      let clear = none-live (t .page) a n (s .live) (d .before) (d .agrees .buffers) (range .size .positive) before (λ x. omega (arith, sound-once w x, covers x)) in
+      let page : s .run .page ≡ t .fields .page = ap (λ (r : Run). r .page) (d .agrees .runs) ∙ d .agrees .page in
+      let whole = whole-mapped (t .fields .page) a n (s .mapped) (w .page) range (λ x z p q. omega (arith, d .agrees .mapped x z, covers x, within-in a n x p q)) in
+      let before : All (λ b. WholeRange (t .fields .page) (b .start .0) (b .size)) (d .before) =
+      all-members _ (d .before) (λ b m. member-all (λ c. WholeRange (t .fields .page) (c .start .0) (c .size)) b (t .live) (subst (Member b) (sym (d .live)) (put-keeps (λ c. c .start .0) b (Values.buffer a n k) (d .before) m)) (w .live)) in
+      let clear = none-live (t .fields .page) a n (s .live) (d .before) (d .agrees .buffers) (range .size .positive) before (λ x. omega (arith, sound-once w x, covers x)) in
       all-four (eqb n (s .run .asked .first)) (wholePages (s .run .page) (s .mapped) a n) (noneLive (s .live) a n) (noHandleTwice (s .mapped) (s .live) a n)
       (eq-eqb n (s .run .asked .first) (sym e)) (subst (λ p. wholePages p (s .mapped) a n ≡ true) (sym page) whole) clear no-handle-twice

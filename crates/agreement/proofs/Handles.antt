@@ -1,5 +1,5 @@
 -- One page, from the creation of its handle to the release: what each record of it leaves of the relation. Between its creation and the mapping, and
--- between the unmapping and its release, the handle is spare. Assumes nothing.
+-- between the unmapping and its release, the handle is spare.
 use mathlib.Core.Path.{_≡_, refl, sym, _∙_}
 use mathlib.Core.Logic.{inl, inr, ⊎-elim}
 use mathlib.Core.Bool.{Bool, true, false, cond, not}
@@ -22,10 +22,10 @@ use Rattle.tables.specs.declared.Page as Pool
 use Rattle.keeping.specs.Cover.{equal, coverRoots, handlesAt}
 use Rattle.keeping.proofs.Cover.{equal-same, equal-other}
 use Rattle.keeping.proofs.Counting.{none-counted, count-kept, count-dropped}
-use Rattle.judging.specs.Ranges.{inside}
-use Rattle.judging.specs.Rules.{Judge, Page, R3}
-use Rattle.judging.specs.Verdict.{withHeld, placed, unmapped, released}
-use Rattle.judging.specs.declared.Run.{Run}
+use Rattle.judge_rules.specs.Ranges.{inside}
+use Rattle.judge_rules.specs.Rules.{Judge, Page, R3}
+use Rattle.judge_rules.specs.Verdict.{withHeld, placed, unmapped, released}
+use Rattle.judge_rules.specs.declared.Run.{Run}
 use Rattle.agreement.specs.Agrees.{mapping, mappedAt, heldAt, Agrees}
 use Rattle.agreement.proofs.Same.{sum-passing}
 use Rattle.agreement.proofs.Meets.{mapped-none, held-some, aligned-below, in-reservation}
@@ -61,18 +61,18 @@ module _ {run : Run} {live : List LiveBuffer} {t : Tables} {s : Judge} where
       }
 
   -- R3: `a` is inside the roots, and in no range that is mapped
-  pub meets-map : {new : ℕ → ℕ} (a h : ℕ) → Agrees run new (h ∷ []) live t s → 0 < t .page → a % t .page ≡ 0 → t .va % t .page ≡ 0 →
-      All (λ b. b .0 % t .page ≡ 0) (t .roots) → 0 < coverRoots (t .va) (t .roots) a → spansAt t a + new a ≡ 0 → R3 s a h ≡ true
+  pub meets-map : {new : ℕ → ℕ} (a h : ℕ) → Agrees run new (h ∷ []) live t s → 0 < t .fields .page → a % t .fields .page ≡ 0 → t .fields .va % t .fields .page ≡ 0 →
+      All (λ b. b .0 % t .fields .page ≡ 0) (t .roots) → 0 < coverRoots (t .fields .va) (t .roots) a → spansAt t a + new a ≡ 0 → R3 s a h ≡ true
   unfolding R3
   meets-map a h g pos e va roots inside clear =
-      let reserved = in-reservation (t .page) (t .va) a (s .reservations) (t .roots) (g .reservations) pos e va roots inside in
+      let reserved = in-reservation (t .fields .page) (t .fields .va) a (s .reservations) (t .roots) (g .reservations) pos e va roots inside in
       let unmapped = mapped-none (s .mapped) a (g .mapped a e ∙ clear) in
       let held = held-some (s .held) h (omega (arith, g .held (λ k. equal k h), equal-same h)) in
       rw (agrees-page g, reserved, unmapped, held)
 
   -- a handle that is held is mapped at `a`, and active there
-  pub agrees-mapped : {new new′ : ℕ → ℕ} (a h : ℕ) → Agrees run new (h ∷ []) live t s → a % t .page ≡ 0 →
-      ((x : ℕ) → x % t .page ≡ 0 → new′ x ≡ new x + equal a x) → Agrees run new′ [] live (withPages (put at (page a h) (t .pages)) t) (placed s a h)
+  pub agrees-mapped : {new new′ : ℕ → ℕ} (a h : ℕ) → Agrees run new (h ∷ []) live t s → a % t .fields .page ≡ 0 →
+      ((x : ℕ) → x % t .fields .page ≡ 0 → new′ x ≡ new x + equal a x) → Agrees run new′ [] live (withPages (put at (page a h) (t .pages)) t) (placed s a h)
   agrees-mapped a h g e more =
       record {
         runs = g .runs;
@@ -89,9 +89,9 @@ module _ {run : Run} {live : List LiveBuffer} {t : Tables} {s : Judge} where
       }
 
   -- A page that is in no table's range is unmapped, and is active no more.
-  pub agrees-unmapped : {new new′ : ℕ → ℕ} (q : Pool.Page) → Agrees run new [] live t s → 0 < t .page → Rises at 0 (t .pages) → Member q (t .pages) →
-      ((x : ℕ) → x % t .page ≡ 0 → new x ≡ equal (at q) x + new′ x) → spansAt t (at q) + new′ (at q) ≡ 0 →
-      Agrees run new′ (q .handle .0 ∷ []) live (withPages (without at (at q) (t .pages)) t) (unmapped s (at q) (t .page))
+  pub agrees-unmapped : {new new′ : ℕ → ℕ} (q : Pool.Page) → Agrees run new [] live t s → 0 < t .fields .page → Rises at 0 (t .pages) → Member q (t .pages) →
+      ((x : ℕ) → x % t .fields .page ≡ 0 → new x ≡ equal (at q) x + new′ x) → spansAt t (at q) + new′ (at q) ≡ 0 →
+      Agrees run new′ (q .handle .0 ∷ []) live (withPages (without at (at q) (t .pages)) t) (unmapped s (at q) (t .fields .page))
   agrees-unmapped {new} {new′} q g pos rises here less gone =
       record {
         runs = g .runs;
@@ -108,17 +108,17 @@ module _ {run : Run} {live : List LiveBuffer} {t : Tables} {s : Judge} where
       }
     where
       stays : Page → Bool
-      stays m = not (inside (at q) (t .page) (m .at))
+      stays m = not (inside (at q) (t .fields .page) (m .at))
 
-      starts : at q % t .page ≡ 0
+      starts : at q % t .fields .page ≡ 0
       starts = member-all _ (mapping q) (s .mapped) (member-all _ q (t .pages) here (g .active)) (g .aligned)
 
       away : mappedAt (filter stays (s .mapped)) (at q) ≡ spansAt t (at q) + new′ (at q)
-      away = count-dropped (λ (m : Page). m .at) (λ y. not (inside (at q) (t .page) y)) (at q) (s .mapped) (rw (inside-self (t .page) (at q) pos)) ∙ sym gone
+      away = count-dropped (λ (m : Page). m .at) (λ y. not (inside (at q) (t .fields .page) y)) (at q) (s .mapped) (rw (inside-self (t .fields .page) (at q) pos)) ∙ sym gone
 
-      other : (x : ℕ) → x % t .page ≡ 0 → (x ≡ at q → ⊥) → mappedAt (filter stays (s .mapped)) x ≡ spansAt t x + new′ x
+      other : (x : ℕ) → x % t .fields .page ≡ 0 → (x ≡ at q → ⊥) → mappedAt (filter stays (s .mapped)) x ≡ spansAt t x + new′ x
       other x e n =
-          let kept = count-kept (λ (m : Page). m .at) (λ y. not (inside (at q) (t .page) y)) x (s .mapped) (rw (inside-other (t .page) (at q) x starts e n)) in
+          let kept = count-kept (λ (m : Page). m .at) (λ y. not (inside (at q) (t .fields .page) y)) x (s .mapped) (rw (inside-other (t .fields .page) (at q) x starts e n)) in
           omega (arith, kept, g .mapped x e, less x e, equal-other (at q) x (λ d. n (sym d)))
 
       -- a page that is active still is mapped still
@@ -127,7 +127,7 @@ module _ {run : Run} {live : List LiveBuffer} {t : Tables} {s : Judge} where
           let m = member-filter (λ (b : Pool.Page). not (eqb (at b) (at q))) r (t .pages) i in
           let active = member-all _ r (t .pages) (m .0) (g .active) in
           let e = member-all _ (mapping r) (s .mapped) active (g .aligned) in
-          filter-member stays (mapping r) (s .mapped) active (rw (inside-other (t .page) (at q) (at r) starts e (eqb-false (at r) (at q) (not-true (eqb (at r) (at q)) (m .1)))))
+          filter-member stays (mapping r) (s .mapped) active (rw (inside-other (t .fields .page) (at q) (at r) starts e (eqb-false (at r) (at q) (not-true (eqb (at r) (at q)) (m .1)))))
 
   -- No page has the handle that is spare, neither an active one nor a mapped one.
   pub agrees-released : {new : ℕ → ℕ} (h : ℕ) → Agrees run new (h ∷ []) live t s → handlesAt (t .pages) h ≡ 0 → All (λ m. m .handle ≡ h → ⊥) (s .mapped) →

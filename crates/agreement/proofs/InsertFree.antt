@@ -1,5 +1,5 @@
 -- Insert free: its one record is that of the counter's id, which is above all before it; the pages of the range, which were mapped in hand, are then those
--- of a free region. Assumes nothing.
+-- of a free region.
 use mathlib.Core.Path.{_≡_, refl, ap, sym, subst}
 use mathlib.Core.Bool.{not}
 use mathlib.Core.List.{List}
@@ -16,9 +16,9 @@ use Rattle.tables.specs.declared.Outcome.{Outcome}
 use Rattle.keeping.specs.Cover.{within}
 use Rattle.keeping.specs.Sound.{Sound, Left}
 use Rattle.keeping.proofs.InsertFree.{Inserting, Inserted, inserts-free-and, inserts-free}
-use Rattle.judging.specs.Rules.{Judge}
-use Rattle.judging.specs.Verdict.{recorded, ruled, withLast}
-use Rattle.judging.specs.declared.Run.{Run}
+use Rattle.judge_rules.specs.Rules.{Judge}
+use Rattle.judge_rules.specs.Verdict.{recorded, ruled, withLast}
+use Rattle.judge_rules.specs.declared.Run.{Run}
 use Rattle.agreement.specs.Agrees.{Serving, Agrees, Agreeing}
 use Rattle.agreement.specs.Judges.{Judges}
 use Rattle.agreement.proofs.Judges.{judges-from, judges-to, judges-ends, judges-named, judges-and, judges-then, judges-give, judges-known, judges-change}
@@ -29,16 +29,16 @@ use Rattle.agreement.proofs.Agrees.{agrees-beside, agrees-counted}
 module _ {run : Run} (serving : Serving run) where
   -- the tables `u` with another free table and the next counter, the state `v` with the counter's id recorded
   record Recorded (u : Tables) (v : Judge) (t : Tables) (s : Judge) : Type 0 where
-    tables : t ≡ withCounter (u .counter + 1) (withFree (t .free) u)
-    state : s ≡ withLast v (u .counter)
+    tables : t ≡ withCounter (u .fields .counter + 1) (withFree (t .free) u)
+    state : s ≡ withLast v (u .fields .counter)
 
   module _ {new : ℕ → ℕ} {spare : List ℕ} {live : List LiveBuffer} (a n c : ℕ) (u : Tables) (v : Judge) (g : Agrees run new spare live u v) where
-    accepts : Accepts RecordEvent (u .counter) c v (λ s. s ≡ withLast v (u .counter))
+    accepts : Accepts RecordEvent (u .fields .counter) c v (λ s. s ≡ withLast v (u .fields .counter))
     unfolding recorded ruled
     accepts =
         record {
           inside = agrees-inside serving g;
-          state = withLast v (u .counter);
+          state = withLast v (u .fields .counter);
           accepts = rw (agrees-seen serving g, agrees-recorded serving g);
           holds = refl;
         }
@@ -46,16 +46,16 @@ module _ {run : Run} (serving : Serving run) where
     records : {E : Outcome → Tables → Judge → Type 0} → Judges (λ t s. (t ≡ u) × (s ≡ v)) (insertFree a n c) (λ _. Recorded u v) E
     unfolding insertFree recordEvent
     records =
-        let far : Judge = withLast v (u .counter) in
+        let far : Judge = withLast v (u .fields .counter) in
         judges-known u (λ w e. rw e
         (judges-then (λ _ t s. (t ≡ withFree (t .free) u) × (s ≡ v)) (judges-change _ (λ t s q. (ap (withFree (filter (λ r. not (merges a n c r)) (t .free))) (q .0), q .1))) (λ _.
         judges-then (λ _ t s. (t ≡ withFree (t .free) u) × (s ≡ far))
-        (judges-must RecordEvent (u .counter) c (λ _. refl) (λ t s q few. subst (λ s. Accepts RecordEvent (u .counter) c s (λ z. (t ≡ withFree (t .free) u) × (z ≡ far))) (sym (q .1)) (told t (q .0)))) (λ _.
-        judges-then (λ _ t s. (t ≡ withFree (t .free) u) × (s ≡ far)) (judges-change _ (λ t s q. (ap (λ x. withFree (putFree (merged a n c (u .counter) (filter (merges a n c) (u .free))) (x .free)) x) (q .0), q .1))) (λ _.
-        judges-then (λ _. Recorded u v) (judges-change _ (λ t s q. record { tables = ap (λ x. withCounter (x .counter + 1) x) (q .0); state = q .1 })) (λ _.
+        (judges-must RecordEvent (u .fields .counter) c (λ _. refl) (λ t s q few. subst (λ s. Accepts RecordEvent (u .fields .counter) c s (λ z. (t ≡ withFree (t .free) u) × (z ≡ far))) (sym (q .1)) (told t (q .0)))) (λ _.
+        judges-then (λ _ t s. (t ≡ withFree (t .free) u) × (s ≡ far)) (judges-change _ (λ t s q. (ap (λ x. withFree (putFree (merged a n c (u .fields .counter) (filter (merges a n c) (u .free))) (x .free)) x) (q .0), q .1))) (λ _.
+        judges-then (λ _. Recorded u v) (judges-change _ (λ t s q. record { tables = ap (λ x. withCounter (x .fields .counter + 1) x) (q .0); state = q .1 })) (λ _.
         judges-give _))))))
       where
-        told : (t : Tables) → t ≡ withFree (t .free) u → Accepts RecordEvent (u .counter) c v (λ z. (t ≡ withFree (t .free) u) × (z ≡ withLast v (u .counter)))
+        told : (t : Tables) → t ≡ withFree (t .free) u → Accepts RecordEvent (u .fields .counter) c v (λ z. (t ≡ withFree (t .free) u) × (z ≡ withLast v (u .fields .counter)))
         told t e = record { inside = accepts .inside; state = accepts .state; accepts = accepts .accepts; holds = (e, accepts .holds) }
 
   -- The range is in hand, and its pages are mapped; then they are part of the free region `r`.
@@ -72,7 +72,7 @@ module _ {run : Run} (serving : Serving run) where
       settled : (u : Tables) (v : Judge) → Inserting lost hand bare p f a n l u → Agrees run (λ x. new x + within a n x) spare live u v → (r : FreeRegion) (t : Tables) (s : Judge) →
           Inserted lost hand bare p f a n c l r t × Recorded u v t s → Agrees run new spare live t s
       settled u v i g r t s (d, h) =
-          let m : Tables = withCounter (u .counter + 1) (withFree (t .free) u) in
+          let m : Tables = withCounter (u .fields .counter + 1) (withFree (t .free) u) in
           let sound : Sound lost hand bare m = subst (Sound lost hand bare) (h .tables) (d .sound) in
           let moved : Agrees run new spare live (withFree (t .free) u) v =
           agrees-beside new g (record { page = refl; va = refl; counter = refl; pages = refl; roots = refl })

@@ -1,4 +1,4 @@
--- The new pages, made accessible and inserted as free: every page of their range is mapped. Assumes nothing.
+-- The new pages, made accessible and inserted as free: every page of their range is mapped.
 use mathlib.Core.Path.{_≡_, refl}
 use mathlib.Core.List.{[]}
 use mathlib.Core.Option.{some, none}
@@ -19,8 +19,8 @@ use Rattle.keeping.specs.MakeRoom.{Made}
 use Rattle.keeping.proofs.Cover.{within-none}
 use Rattle.keeping.proofs.NewPages.{made-whole}
 use Rattle.keeping.proofs.Fill.{Ready, made-inserting, inserts-new}
-use Rattle.judging.specs.Rules.{Judge}
-use Rattle.judging.specs.declared.Run.{Run}
+use Rattle.judge_rules.specs.Rules.{Judge}
+use Rattle.judge_rules.specs.declared.Run.{Run}
 use Rattle.agreement.specs.Agrees.{Serving, Agreeing, Ends}
 use Rattle.agreement.specs.Judges.{Judges}
 use Rattle.agreement.proofs.Judges.{judges-from, judges-to, judges-ends, judges-named, judges-and, judges-then, judges-give, judges-cond}

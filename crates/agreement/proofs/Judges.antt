@@ -1,4 +1,4 @@
--- The rules of the triple: one for each way that a step is made. Assumes nothing.
+-- The rules of the triple: one for each way that a step is made.
 use mathlib.Core.Path.{_≡_, refl, _∙_}
 use mathlib.Core.Bool.{Bool, true, false, cond}
 use mathlib.Core.List.{List, [], _∷_, _++_, map, map-append}
@@ -10,8 +10,8 @@ use Rattle.tables.specs.declared.Outcome.{Outcome}
 use Rattle.trace.specs.Kinds.{ofRecord}
 use Rattle.trace.specs.declared.Line.{Line}
 use Rattle.keeping.specs.Holds.{After, Holds}
-use Rattle.judging.specs.Rules.{Judge}
-use Rattle.judging.specs.Verdict as Verdict
+use Rattle.judge_rules.specs.Rules.{Judge}
+use Rattle.judge_rules.specs.Verdict as Verdict
 use Rattle.agreement.specs.Judges.{read, Reach, Fair, addresses, excused, Reached, Judges}
 use Rattle.agreement.proofs.Reading.{read-append, fair-first, fair-second}
 

@@ -37,7 +37,6 @@ pub mod Run
 pub mod Accepted
 pub mod Texts
 pub mod Replay
-pub mod WellFormed
 pub mod Needed
 pub mod FewMapped
 pub mod MapsOver

@@ -1,4 +1,4 @@
--- Make room: a range is taken, the missing pages are made in it and become free, and the free bytes fill the rest. Assumes nothing.
+-- Make room: a range is taken, the missing pages are made in it and become free, and the free bytes fill the rest.
 use mathlib.Core.Path.{_≡_}
 use mathlib.Core.List.{[]}
 use Prim.Native.Nat.{ℕ, _-_, _/_, _%_}
@@ -10,7 +10,7 @@ use Rattle.keeping.specs.MakeRoom.{TakesFrom, Made}
 use Rattle.keeping.proofs.TakeRange.{TakenRange}
 use Rattle.keeping.proofs.Fill.{Ready}
 use Rattle.keeping.proofs.MakeRoom.{Roomed, aligned-missing, count, taken, taken-begins, taken-measured}
-use Rattle.judging.specs.declared.Run.{Run}
+use Rattle.judge_rules.specs.declared.Run.{Run}
 use Rattle.keeping.specs.Cover.{within}
 use Rattle.agreement.specs.Agrees.{Serving, Agreeing, Ends}
 use Rattle.agreement.specs.Judges.{Judges}

@@ -1,4 +1,4 @@
--- Malloc, as far as its records go: cleanup, fit, and where none fits make room or one of 8 to 11, which read nothing; then the hand-over. Assumes nothing.
+-- Malloc, as far as its records go: cleanup, fit, and where none fits make room or one of 8 to 11, which read nothing; then the hand-over.
 use mathlib.Core.Path.{_≡_, refl}
 use mathlib.Core.Bool.{Bool, false, _&&_, _||_}
 use mathlib.Core.List.{[]}
@@ -6,6 +6,7 @@ use mathlib.Core.Option.{Option, some, none as no}
 use Prim.Native.Nat.{ℕ, _+_, _-_, _/_}
 use lib.Dec.{ltb, leb}
 use lib.ListN.{length}
+use Rattle.tables.specs.Bounds.{HOLES, PAGES, SPANS, ZOMBIES}
 use Rattle.tables.specs.Values.{Tables}
 use Rattle.tables.specs.Outcomes.{is}
 use Rattle.tables.specs.Steps.{endIf}
@@ -21,7 +22,7 @@ use Rattle.keeping.specs.MakeRoom.{TakesFrom}
 use Rattle.keeping.specs.Malloc.{Asked}
 use Rattle.keeping.proofs.Fit.{Fitting, Fitted}
 use Rattle.keeping.proofs.Malloc.{losing, Handed, found, made, admits-room, begins}
-use Rattle.judging.specs.declared.Run.{Run}
+use Rattle.judge_rules.specs.declared.Run.{Run}
 use Rattle.agreement.specs.Agrees.{Serving, Agreeing, Ended, Ends}
 use Rattle.agreement.specs.Judges.{Judges}
 use Rattle.agreement.proofs.Judges.{judges-from, judges-to, judges-named, judges-and, judges-then, judges-give, judges-looked, judges-endIf}
@@ -41,15 +42,15 @@ module _ {run : Run} where
   judges-refused n =
       judges-looked (λ u.
       let pulled = length (u .zombies) + length (u .free) in
-      judges-then _ (refuses u (ltb (u .va) n) (RequestedExceedsVa n (u .va)) refl) (λ _.
-      judges-then _ (refuses u (ltb 256 (length (u .pages) + missing n u / u .page)) PagesFull refl) (λ _.
-      judges-then _ (refuses u (ltb 128 pulled || ltb 511 (pulled + length (u .holes))) ZombiesFull refl) (λ _.
+      judges-then _ (refuses u (ltb (u .fields .va) n) (RequestedExceedsVa n (u .fields .va)) refl) (λ _.
+      judges-then _ (refuses u (ltb PAGES (length (u .pages) + missing n u / u .fields .page)) PagesFull refl) (λ _.
+      judges-then _ (refuses u (ltb ZOMBIES pulled || ltb (HOLES - 1) (pulled + length (u .holes))) ZombiesFull refl) (λ _.
       judges-to (λ _ t s q. rw (q .0) (q .1)) (refuses u (noHole (smallestHole n (u .holes)) && leb 16 (length (u .roots))) RootsFull refl)))))
 
 module _ {run : Run} (serving : Serving run) (lost : ℕ → ℕ) (n k : ℕ) where
   module _ (p f : ℕ) (size : Whole p n) where
     gives-region : (x : Option FreeRegion) →
-        Judges (λ t s. Fitted lost p f 127 n x t × Agreeing run none [] t s) (orRoom n k x)
+        Judges (λ t s. Fitted lost p f (SPANS - 1) n x t × Agreeing run none [] t s) (orRoom n k x)
         (λ r t s. Handed lost f n r t × Agreeing run none [] t s) (Ends run lost)
     unfolding orRoom
     gives-region no =
@@ -72,9 +73,9 @@ module _ {run : Run} (serving : Serving run) (lost : ℕ → ℕ) (n k : ℕ) wh
   unfolding mallocSteps
   judges-mallocSteps =
       judges-named (λ u v w.
-      let p = u .page in
+      let p = u .fields .page in
       let f = bytes (u .free) in
       judges-from (λ t s e. rw (e .0, e .1) (begins lost n f u (w .0) refl, w .1))
-      (judges-then (λ _ t s. Fitting lost p f 127 t × Agreeing run none [] t s) (judges-cleanup serving lost p f 127) (λ _.
-      judges-then (λ x t s. Fitted lost p f 127 n x t × Agreeing run none [] t s) (judges-fit serving lost p f 127 n k) (λ x.
+      (judges-then (λ _ t s. Fitting lost p f (SPANS - 1) t × Agreeing run none [] t s) (judges-cleanup serving lost p f (SPANS - 1)) (λ _.
+      judges-then (λ x t s. Fitted lost p f (SPANS - 1) n x t × Agreeing run none [] t s) (judges-fit serving lost p f (SPANS - 1) n k) (λ x.
       judges-then (λ r t s. Handed lost f n r t × Agreeing run none [] t s) (gives-region p f (w .0 .1 .0) x) (hands-out p f (w .0 .1 .0))))))

@@ -1,8 +1,8 @@
--- A malloc: refused, ended early, or done; then its result adds the buffer to the judge's live ones, which are the live table's again. Assumes nothing.
+-- A malloc: refused, ended early, or done; then its result adds the buffer to the judge's live ones, which are the live table's again.
 use mathlib.Core.Path.{_≡_, refl, ap, sym, _∙_, subst}
 use mathlib.Core.Bool.{Bool, true, false, cond, _||_, not}
 use mathlib.Core.List.{List, [], _∷_, map}
-use Prim.Native.Nat.{ℕ, suc, _+_, _≤_, _%_}
+use Prim.Native.Nat.{ℕ, suc, _+_, _-_, _≤_, _%_}
 use native.Mathlib.Omega.{arith}
 use borrow.Author.Tests.{eqb-true, eqb-false, leb-false, not-false, le-leb}
 use lib.Dec.{leb, eqb}
@@ -10,12 +10,14 @@ use lib.ListN.{length}
 use Rattle.lists.specs.Order.{put}
 use Rattle.lists.proofs.Tests.{neither}
 use Rattle.lists.proofs.Order.{length-put}
+use Rattle.tables.specs.Bounds.{SPANS}
 use Rattle.tables.specs.Values as Values
 use Rattle.tables.specs.Values.{Tables, opened, poolOf, atEntry}
 use Rattle.tables.specs.Outcomes.{numbers}
 use Rattle.tables.specs.Steps.{Ending, on, ends, Went}
 use Rattle.tables.specs.HandsBack.{refused, outcomeOf, poolAfter, finished}
 use Rattle.tables.specs.Malloc.{mallocSteps, mallocBy, malloc}
+use Rattle.tables.specs.Calls.{mallocs}
 use Rattle.tables.specs.declared.Pool.{Pool}
 use Rattle.tables.specs.declared.Outcome.{Outcome}
 use Rattle.tables.specs.declared.Outcome.the-variants.{BadSize, SpansFull}
@@ -24,13 +26,13 @@ use Rattle.trace.specs.declared.Line.{Line}
 use Rattle.keeping.specs.Sound.{Whole, KeptBut}
 use Rattle.keeping.specs.Malloc.{Asked}
 use Rattle.keeping.proofs.WellFormedEnters.{entry-page, entry-spans}
-use Rattle.judging.specs.Rules.{Judge}
-use Rattle.judging.specs.Verdict.{told, handed, answered, ruled, sized}
-use Rattle.judging.specs.Verdict as Verdict
-use Rattle.judging.specs.declared.Run.{Run}
-use Rattle.judging.specs.declared.Call.the-variants.{Malloc}
-use Rattle.printing.specs.Traced.{resultOf}
-use Rattle.agreement.specs.Runs.{mallocs}
+use Rattle.judge_rules.specs.Sizes.{mostLive}
+use Rattle.judge_rules.specs.Rules.{Judge}
+use Rattle.judge_rules.specs.Verdict.{told, handed, answered, ruled, sized}
+use Rattle.judge_rules.specs.Verdict as Verdict
+use Rattle.judge_rules.specs.declared.Run.{Run}
+use Rattle.judge_rules.specs.declared.Call.the-variants.{Malloc}
+use Rattle.replay_lines.specs.Traced.{resultOf}
 use Rattle.agreement.specs.Agrees.{SameBy, buffer, Serving, Ends}
 use Rattle.agreement.specs.Judges.{Reach, Fair, addresses, excused, Reached}
 use Rattle.agreement.proofs.Same.{same-length, same-put}
@@ -64,7 +66,7 @@ module _ (n k : ℕ) (s : Judge) (over : s .run .over ≡ false) where
           agrees = agrees-run _ (ap (λ (r : Run). r .page) same) (ap (λ (r : Run). r .va) same) (d .agrees);
         }
 
-    room : suc (length (y .live)) ≤ 128
+    room : suc (length (y .live)) ≤ mostLive
     room =
         let few = kept .kept .ceilings .spans in
         omega (arith, same-length (d .agrees .buffers), ap length (d .live), length-put (λ b. b .start .0) (Values.buffer a n k) (d .before))
@@ -72,7 +74,7 @@ module _ (n k : ℕ) (s : Judge) (over : s .run .over ≡ false) where
     handed-on : answered Malloc (told y) a n ≡ Verdict.on (handed (told y) a n)
     unfolding answered ruled sized
     handed-on =
-        rw (meets-malloc (kept .kept .sound) given-told (ap (λ (r : Run). r .asked .first) same), le-leb (suc (length (y .live))) 128 room)
+        rw (meets-malloc (kept .kept .sound) given-told (ap (λ (r : Run). r .asked .first) same), le-leb (suc (length (y .live))) mostLive room)
 
     buffers : SameBy buffer (handed (told y) a n .live) (t .live)
     buffers =
@@ -127,9 +129,9 @@ module _ (n k : ℕ) (p : Pool) (s : Judge) (h : Stands p s) where
   pub malloc-read : (xs : List ℕ) (log : ℕ) → Read (mallocs n k) p s (malloc p n k xs log)
   unfolding mallocBy
   malloc-read xs log =
-      admitted-read p s h (mallocs n k) log _ (go (eqb n 0 || not (eqb (n % p .page) 0)) refl (leb 128 (p .free .count + p .live .count)) refl)
+      admitted-read p s h (mallocs n k) log _ (go (eqb n 0 || not (eqb (n % p .page) 0)) refl (leb SPANS (p .free .count + p .live .count)) refl)
     where
-      go : (a : Bool) → (eqb n 0 || not (eqb (n % p .page) 0)) ≡ a → (b : Bool) → leb 128 (p .free .count + p .live .count) ≡ b →
+      go : (a : Bool) → (eqb n 0 || not (eqb (n % p .page) 0)) ≡ a → (b : Bool) → leb SPANS (p .free .count + p .live .count) ≡ b →
           Read (mallocs n k) p s (cond a (refused p (BadSize n)) (cond b (refused p SpansFull) (finished p (mallocSteps n k xs 0 (atEntry p)))))
       go true e b q = λ _ _. refused-read (mallocs n k) p s (BadSize n) refl h
       go false e true q = λ _ _. refused-read (mallocs n k) p s SpansFull refl h
@@ -137,7 +139,7 @@ module _ (n k : ℕ) (p : Pool) (s : Judge) (h : Stands p s) where
           let size = neither (eqb n 0) (not (eqb (n % p .page) 0)) e in
           let zero : n ≡ 0 → ⊥ = eqb-false n 0 (size .0) in
           let whole : Whole (p .page) n = record { positive = omega arith; aligned = eqb-true (n % p .page) 0 (not-false (eqb (n % p .page) 0) (size .1)) } in
-          let page : p .page ≡ h .tables .page = sym (entry-page p) ∙ ap (λ (t : Tables). t .page) (entry-tables p s h) in
-          let few : length (h .tables .free) + length (h .tables .live) ≤ 127 =
-          subst (λ (t : Tables). length (t .free) + length (t .live) ≤ 127) (entry-tables p s h) (omega (arith, entry-spans p, leb-false 128 (p .free .count + p .live .count) q)) in
+          let page : p .page ≡ h .tables .fields .page = sym (entry-page p) ∙ ap (λ (t : Tables). t .fields .page) (entry-tables p s h) in
+          let few : length (h .tables .free) + length (h .tables .live) ≤ SPANS - 1 =
+          subst (λ (t : Tables). length (t .free) + length (t .live) ≤ SPANS - 1) (entry-tables p s h) (omega (arith, entry-spans p, leb-false SPANS (p .free .count + p .live .count) q)) in
           served xs (mallocSteps n k xs 0 (atEntry p)) (ap (mallocSteps n k xs 0) (entry-tables p s h)) (h .kept, (subst (λ z. Whole z n) page whole, few))

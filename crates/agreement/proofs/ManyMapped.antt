@@ -1,5 +1,5 @@
 -- The premise on mapped pages is needed too: in a run whose driver never fails and answers credibly 64 pages are moved 64 times, each time to another stream,
--- and their old addresses stay mapped because no event is complete. That is 4,160 mapped pages, and no such trace is accepted. Assumes nothing.
+-- and their old addresses stay mapped because no event is complete. That is 4,160 mapped pages, and no such trace is accepted.
 use mathlib.Core.Path.{_≡_, refl}
 use mathlib.Core.Bool.{Bool, true, false, cond, _&&_, not, false≢true}
 use mathlib.Core.List.{List, [], _∷_, _++_, map}
@@ -12,6 +12,7 @@ use Rattle.lists.specs.Tests.{every}
 use Rattle.lists.proofs.Tests.{both}
 use Rattle.lists.proofs.Every.{and-true}
 use Rattle.words.specs.Answers.{ofPair, lent}
+use Rattle.tables.specs.Bounds.{LOG}
 use Rattle.tables.specs.Values.{freeOf, packFree, liveOf, packLive, holesOf, packHoles, zombiesOf, packZombies, pagesOf, packPages, rootsOf, packRoots, tablesOf, inOrder, poolOf}
 use Rattle.tables.specs.Steps.{_>>=_}
 use Rattle.tables.specs.Outcomes.{is}
@@ -30,14 +31,17 @@ use Rattle.tables.specs.Open.{openSteps, badConfiguration, openFinished, openPo
 use Rattle.tables.specs.Malloc.{roomRefused, orRoom, handOver, mallocSteps, mallocBy}
 use Rattle.tables.specs.Free.{freeSteps, freeFound, free}
 use Rattle.tables.specs.Close.{closeSteps, closeFinished, close}
+use Rattle.tables.specs.Calls.{mallocs, frees, answer}
 use Rattle.tables.specs.declared.Pool.{Pool}
 use Rattle.trace.specs.Kinds.{openLine}
 use Rattle.trace.specs.declared.Line.{Line}
 use Rattle.trace.specs.declared.Reading.the-variants.{Good}
-use Rattle.judging.specs.Said.{said}
-use Rattle.judging.specs.Verdict.{verdict}
-use Rattle.judging.specs.declared.Verdict.the-variants.{Accepted}
-use Rattle.agreement.specs.Runs.{mallocs, frees, Lent, Opening, opened, answered, lineOf, entry, traceFrom, traceOf}
+use Rattle.judge_rules.specs.Sizes.{mostMapped}
+use Rattle.judge_rules.specs.Said.{said}
+use Rattle.judge_rules.specs.Verdict.{verdict}
+use Rattle.judge_rules.specs.declared.Verdict.the-variants.{Accepted}
+use Rattle.replay_lines.specs.Traced.{lineOf}
+use Rattle.agreement.specs.Runs.{Lent, Opening, opened, entry, traceFrom, traceOf}
 use Rattle.agreement.specs.Premises as Premises
 use Rattle.agreement.proofs.FewMapped.{accepted-few}
 
@@ -46,12 +50,12 @@ abbrev mappedIn : List ℕ → List Line → List ℕ
 mappedIn m [] = m
 mappedIn m (l ∷ ls) = mappedIn (Premises.mappedAfter l m) ls
 
-few-after : (m : List ℕ) (ls : List Line) → length m ≤ 4096 → Premises.fewMapped m ls ≡ true → length (mappedIn m ls) ≤ 4096
+few-after : (m : List ℕ) (ls : List Line) → length m ≤ mostMapped → Premises.fewMapped m ls ≡ true → length (mappedIn m ls) ≤ mostMapped
 few-after m [] h e = h
 few-after m (l ∷ ls) h e =
     let n = Premises.mappedAfter l m in
-    let b = both (leb (length n) 4096) (Premises.fewMapped n ls) e in
-    few-after n ls (leb-true (length n) 4096 (b .0)) (b .1)
+    let b = both (leb (length n) mostMapped) (Premises.fewMapped n ls) e in
+    few-after n ls (leb-true (length n) mostMapped (b .0)) (b .1)
 
 -- reliable and credible lines
 abbrev fair : List Line → Bool
@@ -59,16 +63,16 @@ fair ls = every Premises.reliable ls && every Premises.credible ls
 
 -- What is to be computed of calls, one after the other: none is answered 17, their lines are fair, and after them too many pages are mapped.
 abbrev exceeds : Pool → List ℕ → List Lent → Bool
-exceeds p m [] = ltb 4096 (length m)
+exceeds p m [] = ltb mostMapped (length m)
 exceeds p m (c ∷ cs) =
-    let r = answered p (c .call) (c .answers) (c .log) in
+    let r = answer p (c .call) (c .answers) (c .log) in
     let ls = entry (lineOf (c .call)) r in
     not (is 17 (r .outcome)) && (fair ls && exceeds (r .pool) (mappedIn m ls) cs)
 
 record Exceeding (m : List ℕ) (ls : List Line) : Type 0 where
   reliable : every Premises.reliable ls ≡ true
   credible : every Premises.credible ls ≡ true
-  many : 4096 < length (mappedIn m ls)
+  many : mostMapped < length (mappedIn m ls)
 
 every-append : (p : Line → Bool) (l r : List Line) → every p l ≡ true → every p r ≡ true → every p (l ++ r) ≡ true
 every-append p [] r e f = f
@@ -90,9 +94,9 @@ exceeding-append m l r e x =
     }
 
 exceeds-trace : (p : Pool) (m : List ℕ) (cs : List Lent) → exceeds p m cs ≡ true → Exceeding m (traceFrom p cs)
-exceeds-trace p m [] e = record { reliable = refl; credible = refl; many = ltb-true 4096 (length m) e }
+exceeds-trace p m [] e = record { reliable = refl; credible = refl; many = ltb-true mostMapped (length m) e }
 exceeds-trace p m (c ∷ cs) e =
-    let r = answered p (c .call) (c .answers) (c .log) in
+    let r = answer p (c .call) (c .answers) (c .log) in
     let ls = entry (lineOf (c .call)) r in
     let b = both (not (is 17 (r .outcome))) (fair ls && exceeds (r .pool) (mappedIn m ls) cs) e in
     let d = both (fair ls) (exceeds (r .pool) (mappedIn m ls) cs) (b .1) in
@@ -113,13 +117,13 @@ making zero h = zeros 6
 making (suc k) h = 0 ∷ h ∷ 0 ∷ 0 ∷ making k (h + 1)
 
 abbrev opening : Opening
-opening = record { granularity = 1; override = 0; va = 4160; initial = 64; stream = 0; answers = 0 ∷ 1000 ∷ making 64 1; log = 2048 }
+opening = record { granularity = 1; override = 0; va = 4160; initial = 64; stream = 0; answers = 0 ∷ 1000 ∷ making 64 1; log = LOG }
 
 -- `k` times: all pages are asked for on the next stream, and freed. Every answer is 0: done, or not complete.
 abbrev moves : ℕ → ℕ → ℕ → List Lent
 moves zero a s = []
 moves (suc k) a s =
-    record { call = mallocs 64 s; answers = zeros 268; log = 2048 } ∷ record { call = frees a; answers = zeros 2; log = 2048 } ∷ moves k (a + 64) (s + 1)
+    record { call = mallocs 64 s; answers = zeros 268; log = LOG } ∷ record { call = frees a; answers = zeros 2; log = LOG } ∷ moves k (a + 64) (s + 1)
 
 abbrev calls : List Lent
 calls = moves 64 1064 1

@@ -7,6 +7,7 @@ use mathlib.Core.Option.{Option, some, none}
 use Prim.Native.Nat.{ℕ, _+_, _-_, _/_}
 use lib.Dec.{leb}
 use Rattle.words.specs.Answers.{ofPair, lent}
+use Rattle.tables.specs.Bounds.{LOG}
 use Rattle.tables.specs.Values.{freeOf, packFree, liveOf, packLive, holesOf, packHoles, zombiesOf, packZombies, pagesOf, packPages, rootsOf, packRoots, tablesOf, inOrder, poolOf}
 use Rattle.tables.specs.Steps.{Step, _>>=_, _>>_, give, tables}
 use Rattle.tables.specs.Driver as Driver
@@ -25,17 +26,18 @@ use Rattle.tables.specs.Open.{openSteps, badConfiguration, openFinished, openPo
 use Rattle.tables.specs.Malloc.{roomRefused, orRoom, handOver, mallocSteps, mallocBy}
 use Rattle.tables.specs.Free.{freeSteps, freeFound, free}
 use Rattle.tables.specs.Close.{closeSteps, closeFinished, close}
+use Rattle.tables.specs.Calls.{mallocs, frees, answer as answers}
 use Rattle.tables.specs.declared.FreeRegion.{FreeRegion}
 use Rattle.tables.specs.declared.Outcome.{Outcome}
 use Rattle.trace.specs.Kinds.{mallocLine}
 use Rattle.trace.specs.declared.Reading.the-variants.{Good}
-use Rattle.judging.specs.Said.{said}
-use Rattle.judging.specs.Ranges.{pages}
-use Rattle.judging.specs.Rules.{R0, R1, R2, R3, R4, R5, R6, R7, R8, R9recorded, R9asked, R10, wholePages, noneLive, noHandleTwice, credible, inReservation}
-use Rattle.judging.specs.Verdict.{ruled, sized, recorded, answered, taken, judged, atEnd, verdict}
-use Rattle.judging.specs.declared.Verdict.{Verdict}
-use Rattle.judging.specs.declared.Verdict.the-variants.{Accepted, Rejected}
-use Rattle.agreement.specs.Runs.{mallocs, frees, Lent, Opening, opened, answered as answers, entry, traceOf}
+use Rattle.judge_rules.specs.Said.{said}
+use Rattle.judge_rules.specs.Ranges.{pages}
+use Rattle.judge_rules.specs.Rules.{R0, R1, R2, R3, R4, R5, R6, R7, R8, R9recorded, R9asked, R10, wholePages, noneLive, noHandleTwice, credible, inReservation}
+use Rattle.judge_rules.specs.Verdict.{ruled, sized, recorded, answered, taken, judged, atEnd, verdict}
+use Rattle.judge_rules.specs.declared.Verdict.{Verdict}
+use Rattle.judge_rules.specs.declared.Verdict.the-variants.{Accepted, Rejected}
+use Rattle.agreement.specs.Runs.{Lent, Opening, opened, entry, traceOf}
 
 -- The rule's lines, but for the address that the pages are mapped from.
 abbrev pullsOver : Room → ℕ → List FreeRegion → Step FreeRegion
@@ -43,7 +45,7 @@ pullsOver o lacks others = do
   let a = o .start + o .missing
   zs ← pull (pullOrder (o .stream) others) (o .stream) lacks
   t ← tables
-  movePages (pagesIn (t .page) zs) (o .start)
+  movePages (pagesIn (t .fields .page) zs) (o .start)
   must (Driver.access a lacks)
   insertFree a lacks (o .stream)
 
@@ -62,7 +64,7 @@ roomsOver n s none = do
   t ← tables
   a ← TakeRange.takeRange n
   let o : Room = record { start = a; size = n; missing = missing n t; stream = s }
-  makePages (o .missing / t .page) o a
+  makePages (o .missing / t .fields .page) o a
   r ← insertNew o
   fillsOver o r
 
@@ -75,13 +77,13 @@ mapsOver n s = do
 
 -- Page 4, va_size 16: a buffer is handed over at 1000 and freed; then 8 bytes are asked for on another stream, of which 4 are missing.
 abbrev opening : Opening
-opening = record { granularity = 4; override = 0; va = 16; initial = 0; stream = 0; answers = 0 ∷ 1000 ∷ []; log = 2048 }
+opening = record { granularity = 4; override = 0; va = 16; initial = 0; stream = 0; answers = 0 ∷ 1000 ∷ []; log = LOG }
 
 abbrev first : Lent
-first = record { call = mallocs 4 1; answers = 0 ∷ 71 ∷ 0 ∷ 0 ∷ 0 ∷ 0 ∷ 0 ∷ 0 ∷ []; log = 2048 }
+first = record { call = mallocs 4 1; answers = 0 ∷ 71 ∷ 0 ∷ 0 ∷ 0 ∷ 0 ∷ 0 ∷ 0 ∷ []; log = LOG }
 
 abbrev second : Lent
-second = record { call = frees 1000; answers = 0 ∷ 0 ∷ []; log = 2048 }
+second = record { call = frees 1000; answers = 0 ∷ 0 ∷ []; log = LOG }
 
 -- a page created, mapped, accessed, recorded; the other region asked for and waited for; its page mapped, accessed, recorded
 abbrev third : List ℕ
@@ -91,9 +93,9 @@ third = 0 ∷ 72 ∷ 0 ∷ 0 ∷ 0 ∷ 0 ∷ 0 ∷ 0 ∷ 0 ∷ 0 ∷ 0 ∷ 0 ∷
 unfoldable triedBy : (ℕ → ℕ → Step Outcome) → Verdict
 unfolding _>>=_ freeOf packFree liveOf packLive holesOf packHoles zombiesOf packZombies pagesOf packPages rootsOf packRoots tablesOf inOrder poolOf ofPair lent Driver.reserve Driver.create Driver.map Driver.access Driver.unmap Driver.release Driver.recordEvent Driver.ask Driver.wait Driver.sync Driver.giveback insertHole insertFree TakeRange.smallestHole TakeRange.cutHole TakeRange.credible TakeRange.reserveRoot TakeRange.takeHole TakeRange.takeRange mapPage unmake rollBack created insertNew settle pullOne pullIn fill makeRoom clean cleanup takeOver orOther fit allowed ceilingsKept sound wellFormed finished admitted openSteps badConfiguration openFinished openPool roomRefused orRoom handOver mallocSteps mallocBy freeSteps freeFound free closeSteps closeFinished close said pages wholePages noneLive noHandleTwice credible inReservation ruled sized R0 R1 R2 R3 R4 R5 R6 R7 R8 R9recorded R9asked R10 recorded answered taken judged atEnd verdict
 triedBy steps =
-    let p = answers (opened opening .pool) (first .call) (first .answers) 2048 .pool in
-    let q = answers p (second .call) (second .answers) 2048 .pool in
-    verdict (map Good (traceOf opening (first ∷ second ∷ []) ++ entry (mallocLine 8 2) (mallocBy steps q 8 2 third 2048)))
+    let p = answers (opened opening .pool) (first .call) (first .answers) LOG .pool in
+    let q = answers p (second .call) (second .answers) LOG .pool in
+    verdict (map Good (traceOf opening (first ∷ second ∷ []) ++ entry (mallocLine 8 2) (mallocBy steps q 8 2 third LOG)))
 
 rule-accepted : triedBy mallocSteps ≡ Accepted
 unfolding triedBy

@@ -1,5 +1,5 @@
 -- What the relation says to the judge's rules: ids below the counter are not above the last one recorded; a range whose every page is mapped is one of whole
--- mapped pages; a range that no live buffer covers is clear of them; a page inside the roots is in a reservation. Assumes nothing.
+-- mapped pages; a range that no live buffer covers is clear of them; a page inside the roots is in a reservation.
 use mathlib.Core.Path.{_≡_, refl, ap, sym, _∙_}
 use mathlib.Core.Logic.{_⊎_, inl, inr, ⊎-elim}
 use mathlib.Core.Bool.{Bool, true, false, _&&_, _||_}
@@ -22,10 +22,10 @@ use Rattle.keeping.specs.Sound.{WholeRange}
 use Rattle.keeping.proofs.Cover.{within-out, equal-same, equal-positive}
 use Rattle.keeping.proofs.Whole.{aligned-add, aligned-sub, aligned-pages, aligned-next}
 use Rattle.keeping.proofs.Counting.{once-clear}
-use Rattle.judging.specs.Ranges.{inside, clear, pagesFrom, pages}
-use Rattle.judging.specs.Rules.{Reservation, Page, Live, Judge, isIn, isMapped, wholePages, noneLive, inReservation, notAbove, rises, R9recorded, R9asked}
-use Rattle.judging.specs.Verdict.{ended}
-use Rattle.judging.specs.declared.Run.{Run}
+use Rattle.judge_rules.specs.Ranges.{inside, clear, pagesFrom, pages}
+use Rattle.judge_rules.specs.Rules.{Reservation, Page, Live, Judge, isIn, isMapped, wholePages, noneLive, inReservation, notAbove, rises, R9recorded, R9asked}
+use Rattle.judge_rules.specs.Verdict.{ended}
+use Rattle.judge_rules.specs.declared.Run.{Run}
 use Rattle.agreement.specs.Agrees.{SameBy, reservation, buffer, mappedAt, heldAt, lastBelow, Inside, Serving, Agrees}
 use Rattle.agreement.proofs.Same.{same-every, same-any, any-member}
 use Rattle.agreement.proofs.Words.{seen}
@@ -155,10 +155,10 @@ module _ {run : Run} {new : ℕ → ℕ} {spare : List ℕ} {live : List LiveBuf
   pub agrees-seen : seen s ≡ s
   agrees-seen = ap (λ (r : Run). ended (r .asked .call) s) (g .runs) ∙ serving .keeps s
 
-  pub agrees-asked : (id : ℕ) → id < t .counter → Inside (s .run) × ((seen s ≡ s) × (R9asked s id ≡ true))
+  pub agrees-asked : (id : ℕ) → id < t .fields .counter → Inside (s .run) × ((seen s ≡ s) × (R9asked s id ≡ true))
   unfolding R9asked
-  agrees-asked id h = (agrees-inside, (agrees-seen, rw (g .last) (below-last (t .counter) id h)))
+  agrees-asked id h = (agrees-inside, (agrees-seen, rw (g .last) (below-last (t .fields .counter) id h)))
 
-  pub agrees-recorded : R9recorded s (t .counter) ≡ true
+  pub agrees-recorded : R9recorded s (t .fields .counter) ≡ true
   unfolding R9recorded
-  agrees-recorded = rw (g .last) (past-last (t .counter))
+  agrees-recorded = rw (g .last) (past-last (t .fields .counter))

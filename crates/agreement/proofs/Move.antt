@@ -1,5 +1,5 @@
 -- Moving pages: a page that is taken out of the page table leaves its handle held. It is mapped at the next address of a range in hand, which is inside the
--- roots and in no other range, so nothing is mapped there; its old place stays mapped to it, as a zombie's. Assumes nothing.
+-- roots and in no other range, so nothing is mapped there; its old place stays mapped to it, as a zombie's.
 use mathlib.Core.Path.{_≡_, refl, ap, sym}
 use mathlib.Core.Logic.{inr}
 use mathlib.Core.Bool.{true}
@@ -16,6 +16,7 @@ use Rattle.lists.specs.Walks.{sum}
 use Rattle.lists.proofs.Tests.{length-mapped, all-implies}
 use Rattle.lists.proofs.Members.{all-without, sum-without}
 use Rattle.words.specs.declared.Word.the-variants.{Map}
+use Rattle.tables.specs.Bounds.{SPANS}
 use Rattle.tables.specs.Values
 use Rattle.tables.specs.Values.{Tables, withPages}
 use Rattle.tables.specs.Steps.{_>>_, changePages}
@@ -34,9 +35,10 @@ use Rattle.keeping.proofs.Cover.{within-join, within-out, within-none}
 use Rattle.keeping.proofs.Whole.{within-page}
 use Rattle.keeping.proofs.PageStarts.{length-startsOf}
 use Rattle.keeping.proofs.Move.{handleAt-is, unpaged, Moved, page-there, moving-next, moving-first, moves-pages}
-use Rattle.judging.specs.Rules.{Judge, R3}
-use Rattle.judging.specs.Verdict.{recorded, ruled, sized, placed}
-use Rattle.judging.specs.declared.Run.{Run}
+use Rattle.judge_rules.specs.Sizes.{mostMapped}
+use Rattle.judge_rules.specs.Rules.{Judge, R3}
+use Rattle.judge_rules.specs.Verdict.{recorded, ruled, sized, placed}
+use Rattle.judge_rules.specs.declared.Run.{Run}
 use Rattle.agreement.specs.Agrees.{Serving, Agrees, Agreeing, Ends}
 use Rattle.agreement.specs.Judges.{addresses, Judges}
 use Rattle.agreement.proofs.Judges.{judges-from, judges-to, judges-given, judges-and, judges-then, judges-give, judges-looked-at, judges-change}
@@ -78,10 +80,10 @@ module _ {run : Run} (serving : Serving run) where
     abbrev filled : ℕ → ℕ
     filled = within base (a - base)
 
-    pos : 0 < u .page
+    pos : 0 < u .fields .page
     pos = w .sound .page
 
-    aligned : a % u .page ≡ 0
+    aligned : a % u .fields .page ≡ 0
     aligned = rw (w .page) (w .whole .aligned)
 
     -- the next address is in hand, so in no other range
@@ -102,7 +104,7 @@ module _ {run : Run} (serving : Serving run) where
         Agrees run (within base (a + p - base)) [] (u .live) (paged a h (unpaged b u)) (placed s a h)
     put-in s g = agrees-mapped a h g aligned grown
       where
-        grown : (x : ℕ) → x % u .page ≡ 0 → within base (a + p - base) x ≡ filled x + equal a x
+        grown : (x : ℕ) → x % u .fields .page ≡ 0 → within base (a + p - base) x ≡ filled x + equal a x
         grown x e =
             let here : base + (a - base) ≡ a = omega (arith, w .past) in
             let size : (a - base) + p ≡ a + p - base = omega (arith, w .past) in
@@ -110,15 +112,15 @@ module _ {run : Run} (serving : Serving run) where
             omega (arith, join, within-page p a x (rw (w .page) at pos) (w .whole .aligned) (rw (w .page) at e))
 
     -- the judge takes its record
-    accepts : (s : Judge) → Agrees run filled (h ∷ []) (u .live) (unpaged b u) s → length (a ∷ addresses (s .mapped)) ≤ 4096 →
+    accepts : (s : Judge) → Agrees run filled (h ∷ []) (u .live) (unpaged b u) s → length (a ∷ addresses (s .mapped)) ≤ mostMapped →
         Accepts Map a h s (Agrees run (within base (a + p - base)) [] (u .live) (paged a h (unpaged b u)))
     unfolding recorded ruled sized
     accepts s g few =
         let met : R3 s a h ≡ true =
         meets-map a h g pos aligned (w .sound .va .aligned) (all-implies _ _ (λ r q. q .0 .aligned) (u .roots) (w .sound .roots))
         (omega (arith, w .sound .covered a, in-hand)) in-no-range in
-        let fits : leb (suc (length (s .mapped))) 4096 ≡ true =
-        le-leb (suc (length (s .mapped))) 4096 (omega (arith, length-mapped (λ g. g .at) (s .mapped) (length (addresses (s .mapped))) refl)) in
+        let fits : leb (suc (length (s .mapped))) mostMapped ≡ true =
+        le-leb (suc (length (s .mapped))) mostMapped (omega (arith, length-mapped (λ g. g .at) (s .mapped) (length (addresses (s .mapped))) refl)) in
         record {
           inside = agrees-inside serving g;
           state = placed s a h;
@@ -154,7 +156,7 @@ module _ {run : Run} (serving : Serving run) where
 
       one : (u : Tables) → Moving lost hand p base a c f (b ∷ bs) u → Judges (Filled (a + p) bs) (movePages bs (a + p)) (λ _. Filled (a + p + length bs * p) []) E →
           Judges (λ t s. (t ≡ u) × Agreeing run (within base (a - base)) [] u s)
-          (changePages (without at b) >> (mapPage a (handleAt b (u .pages)) >> movePages bs (a + u .page))) (λ _. Filled (a + length (b ∷ bs) * p) []) E
+          (changePages (without at b) >> (mapPage a (handleAt b (u .pages)) >> movePages bs (a + u .fields .page))) (λ _. Filled (a + length (b ∷ bs) * p) []) E
       one u w next =
           let e : a + suc (length bs) * p ≡ a + p + length bs * p = omega (arith, suc-mul (length bs) p) in
           rw e
@@ -164,7 +166,7 @@ module _ {run : Run} (serving : Serving run) where
           (λ _. rw (w .page) next)))
 
   -- The pages of the zombies `zs` are moved to the range from `a` on, which is in hand.
-  pub judges-moves : (lost hand : ℕ → ℕ) (p a c : ℕ) (f : List FreeRegion) (zs : List Zombie) → c ≤ 128 →
+  pub judges-moves : (lost hand : ℕ → ℕ) (p a c : ℕ) (f : List FreeRegion) (zs : List Zombie) → c ≤ SPANS →
       Judges (λ t s. Movable lost hand p a c f zs t × Agreeing run none [] t s) (movePages (pagesIn p zs) a)
       (λ _ t s. Moved lost hand p a (sum (λ z. z .size) zs) c f t × Agreeing run (within a (sum (λ z. z .size) zs)) [] t s) (Ends run lost)
   judges-moves lost hand p a c f zs bound =

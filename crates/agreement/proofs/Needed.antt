@@ -1,11 +1,12 @@
 -- No premise can be left out: for each a small run that has the others, by computation, and the judge rejects it. ManyMapped has that of the premise on
--- mapped pages, which takes more calls. Assumes nothing.
+-- mapped pages, which takes more calls.
 use mathlib.Core.Path.{_≡_, refl}
 use mathlib.Core.Bool.{Bool, true, false}
 use mathlib.Core.List.{List, [], _∷_, map}
 use Prim.Native.Nat.{ℕ}
 use Rattle.lists.specs.Tests.{every}
 use Rattle.words.specs.Answers.{ofPair, lent}
+use Rattle.tables.specs.Bounds.{LOG}
 use Rattle.tables.specs.Values.{freeOf, packFree, liveOf, packLive, holesOf, packHoles, zombiesOf, packZombies, pagesOf, packPages, rootsOf, packRoots, tablesOf, inOrder, poolOf}
 use Rattle.tables.specs.Steps.{_>>=_}
 use Rattle.tables.specs.Outcomes.{is}
@@ -24,14 +25,15 @@ use Rattle.tables.specs.Open.{openSteps, badConfiguration, openFinished, openPo
 use Rattle.tables.specs.Malloc.{roomRefused, orRoom, handOver, mallocSteps, mallocBy}
 use Rattle.tables.specs.Free.{freeSteps, freeFound, free}
 use Rattle.tables.specs.Close.{closeSteps, closeFinished, close}
+use Rattle.tables.specs.Calls.{Call, mallocs, frees, closes}
 use Rattle.trace.specs.declared.Reading.the-variants.{Good}
-use Rattle.judging.specs.Said.{said}
-use Rattle.judging.specs.Ranges.{pages}
-use Rattle.judging.specs.Rules.{R0, R1, R2, R3, R4, R5, R6, R7, R8, R9recorded, R9asked, R10, wholePages, noneLive, noHandleTwice, credible, inReservation}
-use Rattle.judging.specs.Verdict.{ruled, sized, recorded, answered, taken, judged, atEnd, verdict}
-use Rattle.judging.specs.declared.Verdict.{Verdict}
-use Rattle.judging.specs.declared.Verdict.the-variants.{Rejected}
-use Rattle.agreement.specs.Runs.{mallocs, frees, closes, Call, Lent, Opening, opened, traceOf}
+use Rattle.judge_rules.specs.Said.{said}
+use Rattle.judge_rules.specs.Ranges.{pages}
+use Rattle.judge_rules.specs.Rules.{R0, R1, R2, R3, R4, R5, R6, R7, R8, R9recorded, R9asked, R10, wholePages, noneLive, noHandleTwice, credible, inReservation}
+use Rattle.judge_rules.specs.Verdict.{ruled, sized, recorded, answered, taken, judged, atEnd, verdict}
+use Rattle.judge_rules.specs.declared.Verdict.{Verdict}
+use Rattle.judge_rules.specs.declared.Verdict.the-variants.{Rejected}
+use Rattle.agreement.specs.Runs.{Lent, Opening, opened, traceOf}
 use Rattle.agreement.specs.Premises as Premises
 
 -- Whether the opening of a run succeeds, which premises it has, and the verdict on its trace.
@@ -44,10 +46,10 @@ record Tried : Type 0 where
 
 -- pages of 4 bytes in roots of `va`, the first at 1000; each call with its answers
 abbrev opening : ℕ → Opening
-opening va = record { granularity = 4; override = 0; va = va; initial = 0; stream = 0; answers = 0 ∷ 1000 ∷ []; log = 2048 }
+opening va = record { granularity = 4; override = 0; va = va; initial = 0; stream = 0; answers = 0 ∷ 1000 ∷ []; log = LOG }
 
 abbrev asks : Call → List ℕ → Lent
-asks c xs = record { call = c; answers = xs; log = 2048 }
+asks c xs = record { call = c; answers = xs; log = LOG }
 
 unfoldable tried : Opening → List Lent → Tried
 unfolding _>>=_ freeOf packFree liveOf packLive holesOf packHoles zombiesOf packZombies pagesOf packPages rootsOf packRoots tablesOf inOrder poolOf ofPair lent Driver.reserve Driver.create Driver.map Driver.access Driver.unmap Driver.release Driver.recordEvent Driver.ask Driver.wait Driver.sync Driver.giveback insertHole insertFree TakeRange.smallestHole TakeRange.cutHole TakeRange.credible TakeRange.reserveRoot TakeRange.takeHole TakeRange.takeRange mapPage unmake rollBack created insertNew settle pullOne pullIn fill makeRoom clean cleanup takeOver orOther fit allowed ceilingsKept sound wellFormed finished admitted openSteps badConfiguration openFinished openPool roomRefused orRoom handOver mallocSteps mallocBy freeSteps freeFound free closeSteps closeFinished close said pages wholePages noneLive noHandleTwice credible inReservation ruled sized R0 R1 R2 R3 R4 R5 R6 R7 R8 R9recorded R9asked R10 recorded answered taken judged atEnd verdict Premises.reliable Premises.credible Premises.mappedAfter
@@ -116,7 +118,7 @@ unfolding tried
 root-again = refl
 
 -- The opening succeeds. A page size of 0 is refused, and no line of a trace.
-page-zero : tried (record { granularity = 0; override = 0; va = 8; initial = 0; stream = 0; answers = []; log = 2048 }) []
+page-zero : tried (record { granularity = 0; override = 0; va = 8; initial = 0; stream = 0; answers = []; log = LOG }) []
     ≡ record { opens = false; driver = true; credible = true; mapped = true; verdict = Rejected 1 0 }
 unfolding tried
 page-zero = refl

@@ -1,5 +1,5 @@
 -- The missing pages. A handle that the pool finds not to be active is held by nobody, so that the judge takes it, and no mapped page has it; the page is
--- mapped in hand, where nothing is. Where the creation fails, what was made is rolled back. Assumes nothing.
+-- mapped in hand, where nothing is. Where the creation fails, what was made is rolled back.
 use mathlib.Core.Path.{_≡_, refl, ap, sym}
 use mathlib.Core.Logic.{_⊎_, inl, inr, ⊎-elim}
 use mathlib.Core.Bool.{Bool, true, false, false≢true}
@@ -37,9 +37,10 @@ use Rattle.keeping.proofs.Whole.{aligned-pages}
 use Rattle.keeping.proofs.Counting.{none-counted, none-passes}
 use Rattle.keeping.proofs.Sounds.{sound-once}
 use Rattle.keeping.proofs.NewPages.{next-whole, within-next, next-none, maps-page}
-use Rattle.judging.specs.Rules.{Judge, Page, R2, R3}
-use Rattle.judging.specs.Verdict.{recorded, ruled, sized, withHeld, placed}
-use Rattle.judging.specs.declared.Run.{Run}
+use Rattle.judge_rules.specs.Sizes.{mostHeld, mostMapped}
+use Rattle.judge_rules.specs.Rules.{Judge, Page, R2, R3}
+use Rattle.judge_rules.specs.Verdict.{recorded, ruled, sized, withHeld, placed}
+use Rattle.judge_rules.specs.declared.Run.{Run}
 use Rattle.agreement.specs.Premises.{mappedBy}
 use Rattle.agreement.specs.Agrees.{heldAt, Serving, Agreeing, Ends}
 use Rattle.agreement.specs.Judges.{Reach, Fair, addresses, Judges}
@@ -78,7 +79,7 @@ module _ {run : Run} (serving : Serving run) where
         record {
           inside = agrees-inside serving g;
           state = withHeld z (h ∷ z .held);
-          accepts = rw (agrees-seen serving g, held-none (z .held) h unheld, le-leb (suc (length (z .held))) 256 few);
+          accepts = rw (agrees-seen serving g, held-none (z .held) h unheld, le-leb (suc (length (z .held))) mostHeld few);
           holds = record { tables = w; agrees = agrees-created g h; fresh = fresh; active = gone; mapped = all-implies Owned _ other (z .mapped) (g .owned) };
         }
       where
@@ -88,7 +89,7 @@ module _ {run : Run} (serving : Serving run) where
         unheld : heldAt (z .held) h ≡ 0
         unheld = omega (arith, gone, g .held (λ i. equal i h))
 
-        few : suc (length (z .held)) ≤ 256
+        few : suc (length (z .held)) ≤ mostHeld
         few = omega (arith, w .making .few .pages, length-sum (z .held), length-sum (t .pages), g .held (λ _. 1))
 
         Owned : Page → Type 0
@@ -102,7 +103,7 @@ module _ {run : Run} (serving : Serving run) where
       abbrev w : PagesTo lost p f (suc k) s n a t
       w = r .tables
 
-      here : Whole (t .page) a
+      here : Whole (t .fields .page) a
       here = next-whole w
 
       in-hand : within s n a ≡ 1
@@ -133,21 +134,21 @@ module _ {run : Run} (serving : Serving run) where
               below : at g < a
               below =
                   let away : at g ≡ a → ⊥ = member-all _ g (t .pages) i (none-counted at a (t .pages) (next-none w)) in
-                  let e : at g % t .page ≡ 0 = member-all _ g (t .pages) i (w .sound .pages) .aligned in
+                  let e : at g % t .fields .page ≡ 0 = member-all _ g (t .pages) i (w .sound .pages) .aligned in
                   ⊎-elim
                   (λ (q : at g < a). q)
-                  (λ (q : a ≤ at g). absurd (omega (arith, aligned-below (t .page) (at g) a e (here .aligned) (omega arith), w .making .known .page)))
+                  (λ (q : a ≤ at g). absurd (omega (arith, aligned-below (t .fields .page) (at g) a e (here .aligned) (omega arith), w .making .known .page)))
                   (cases-lt (at g) a)
 
-      accepts-map : length (mappedBy Map a h (addresses (z .mapped))) ≤ 4096 →
+      accepts-map : length (mappedBy Map a h (addresses (z .mapped))) ≤ mostMapped →
           Accepts Map a h z (JudgedTo s (a + p) (withPage a h t))
       unfolding recorded ruled sized
       accepts-map few =
-          let most : suc (length (z .mapped)) ≤ 4096 = omega (arith, few, length-mapped (λ (q : Page). q .at) (z .mapped) (length (addresses (z .mapped))) refl) in
+          let most : suc (length (z .mapped)) ≤ mostMapped = omega (arith, few, length-mapped (λ (q : Page). q .at) (z .mapped) (length (addresses (z .mapped))) refl) in
           record {
             inside = agrees-inside serving (r .agrees);
             state = placed z a h;
-            accepts = rw (agrees-seen serving (r .agrees), met, le-leb (suc (length (z .mapped))) 4096 most);
+            accepts = rw (agrees-seen serving (r .agrees), met, le-leb (suc (length (z .mapped))) mostMapped most);
             holds = (agrees-mapped a h (r .agrees) (here .aligned) (within-next w), fresh-mapped);
           }
 
@@ -244,7 +245,7 @@ module _ {run : Run} (serving : Serving run) where
       let e : a + suc k * p ≡ a + p + k * p = omega (arith, suc-mul k p) in
       rw e (judges-looked (λ u.
       judges-from (λ t z q. (q .1 .0 .making .known .page, rw (q .0) (q .1)))
-      (judges-given {P = MadeTo lost p f (suc k) (o .start) (o .size) a} (λ (size : u .page ≡ p).
+      (judges-given {P = MadeTo lost p f (suc k) (o .start) (o .size) a} (λ (size : u .fields .page ≡ p).
       rw size (creates lost p f k o a (makePages k o (a + p)) (judges-makePages lost p f k o (a + p)))))))
 
   -- All that is missing, in whole pages: before the first one nothing is made.

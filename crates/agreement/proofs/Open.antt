@@ -1,4 +1,4 @@
--- An opening, as far as its records go: one root is reserved, the initial pages are made as room is, then sync. Assumes nothing.
+-- An opening, as far as its records go: one root is reserved, the initial pages are made as room is, then sync.
 use mathlib.Core.Path.{_≡_, refl, ap, sym, subst}
 use mathlib.Core.Logic.{inl}
 use mathlib.Core.List.{[]}
@@ -18,9 +18,9 @@ use Rattle.keeping.specs.Sound.{none}
 use Rattle.keeping.specs.Open.{Configured}
 use Rattle.keeping.proofs.TakeRange.{Reserved}
 use Rattle.keeping.proofs.Open.{OpenedKept, empty-kept, takes-from, opens-kept}
-use Rattle.judging.specs.Rules.{Judge}
-use Rattle.judging.specs.Verdict.{on, recorded}
-use Rattle.judging.specs.declared.Run.{Run}
+use Rattle.judge_rules.specs.Rules.{Judge}
+use Rattle.judge_rules.specs.Verdict.{on, recorded}
+use Rattle.judge_rules.specs.declared.Run.{Run}
 use Rattle.agreement.specs.Agrees.{Serving, Agreeing, Ended, Ends}
 use Rattle.agreement.specs.Judges.{Judges}
 use Rattle.agreement.proofs.Judges.{judges-from, judges-to, judges-ends, judges-named, judges-and, judges-then, judges-give, judges-known, judges-cond}
@@ -60,8 +60,8 @@ module _ {run : Run} (serving : Serving run) (page va initial stream : ℕ) (c :
       (judges-then (λ _. Agreeing run none [])
       (judges-cond (eqb initial 0)
       (λ e. judges-from (λ t s k. rw (k .0, k .1) (q .1)) (judges-give tt))
-      (λ e. judges-from (λ t s k. (k .0, rw (k .1) (q .1))) (subst (λ p. Judges (λ t s. (t ≡ v) × Agreeing run none [] v s) (makeRoom (initial * p) stream >> must (sync stream)) (λ _. Agreeing run none []) (Ended run)) (sym (ap (λ (t : Tables). t .page) (q .0 .tables))) (starts b v (q .0) (omega (arith, eqb-false initial 0 e))))))
-      (λ _. judges-give (Opened (address b) (v .page)))))))
+      (λ e. judges-from (λ t s k. (k .0, rw (k .1) (q .1))) (subst (λ p. Judges (λ t s. (t ≡ v) × Agreeing run none [] v s) (makeRoom (initial * p) stream >> must (sync stream)) (λ _. Agreeing run none []) (Ended run)) (sym (ap (λ (t : Tables). t .fields .page) (q .0 .tables))) (starts b v (q .0) (omega (arith, eqb-false initial 0 e))))))
+      (λ _. judges-give (Opened (address b) (v .fields .page)))))))
 
   pub judges-openSteps : Judges (λ t s. (t ≡ u) × Agreeing run none [] u s) (openSteps initial stream) (λ o t s. OpenedKept t × Agreeing run none [] t s) (Ends run none)
   judges-openSteps = judges-and (opens-kept page va initial stream c) opens

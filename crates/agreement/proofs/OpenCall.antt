@@ -1,4 +1,4 @@
--- An opening that succeeds: the judge, which has read nothing, agrees with empty tables, and after its result with the pool's. Assumes nothing.
+-- An opening that succeeds: the judge, which has read nothing, agrees with empty tables, and after its result with the pool's.
 use mathlib.Core.Path.{_≡_, refl, ap, sym, _∙_, subst}
 use mathlib.Core.Bool.{Bool, true, false, cond, false≢true}
 use mathlib.Core.List.{List, [], _∷_, map}
@@ -8,6 +8,7 @@ use borrow.Author.Tests.{eqb-true, ne-eqb}
 use lib.Dec.{ltb, eqb}
 use lib.ListN.{length}
 use Rattle.lists.proofs.Tests.{neither}
+use Rattle.tables.specs.Bounds.{LOG}
 use Rattle.tables.specs.Values.{Tables, opened, poolOf, noTables, closedPool}
 use Rattle.tables.specs.Outcomes.{numbers, is}
 use Rattle.tables.specs.Steps.{Ending, on, ends}
@@ -21,12 +22,12 @@ use Rattle.trace.specs.declared.Reading.the-variants.{Good}
 use Rattle.keeping.specs.Sound.{none}
 use Rattle.keeping.specs.Open.{Configured}
 use Rattle.keeping.proofs.Open.{configured, OpenedKept}
-use Rattle.judging.specs.Said.{said}
-use Rattle.judging.specs.Rules.{Judge, R0}
-use Rattle.judging.specs.Verdict as Verdict
-use Rattle.judging.specs.declared.Run.{Run}
-use Rattle.judging.specs.declared.Call.the-variants.{Open}
-use Rattle.printing.specs.Traced.{resultOf}
+use Rattle.judge_rules.specs.Said.{said}
+use Rattle.judge_rules.specs.Rules.{Judge, R0}
+use Rattle.judge_rules.specs.Verdict as Verdict
+use Rattle.judge_rules.specs.declared.Run.{Run}
+use Rattle.judge_rules.specs.declared.Call.the-variants.{Open}
+use Rattle.replay_lines.specs.Traced.{resultOf}
 use Rattle.agreement.specs.Runs as Runs
 use Rattle.agreement.specs.Runs.{Opening, entry}
 use Rattle.agreement.specs.Agrees.{Inside, Serving, Agreeing, Ends}
@@ -125,7 +126,7 @@ opening-read page va initial stream xs c e fair =
 pub open-read : (o : Opening) → let r = Runs.opened o in let l = openLine (pageSize (o .granularity) (o .override)) (o .va) (o .initial) in
     is 0 (r .outcome) ≡ true → Fair [] (entry l r) → Reach Verdict.start (entry l r) (Standing (r .pool))
 unfolding openPool
-open-read o = go (ltb (o .log) 2048) (badConfiguration (o .granularity) (o .override) (o .va) (o .initial)) refl
+open-read o = go (ltb (o .log) LOG) (badConfiguration (o .granularity) (o .override) (o .va) (o .initial)) refl
   where
     page : ℕ
     page = pageSize (o .granularity) (o .override)

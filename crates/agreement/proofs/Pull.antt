@@ -1,5 +1,5 @@
 -- Pulling regions: the ids asked and waited for are those of free regions, which are below the counter; what leaves the free table joins the zombies, so
--- just as many pages are mapped. Assumes nothing.
+-- just as many pages are mapped.
 use mathlib.Core.Path.{_≡_, refl, ap}
 use mathlib.Core.Bool.{true}
 use mathlib.Core.List.{List, [], _∷_, _++_}
@@ -10,6 +10,7 @@ use lib.Dec.{eqb}
 use Rattle.lists.proofs.Walks.{sum-append}
 use Rattle.lists.proofs.Members.{member-all}
 use Rattle.words.specs.declared.Word.the-variants.{Wait}
+use Rattle.tables.specs.Bounds.{SPANS}
 use Rattle.tables.specs.Values.{Tables, withFree, withZombies}
 use Rattle.tables.specs.Steps.{_>>=_, give}
 use Rattle.tables.specs.Driver.{wait}
@@ -21,9 +22,9 @@ use Rattle.keeping.specs.Cover.{within}
 use Rattle.keeping.specs.Sound.{none}
 use Rattle.keeping.specs.Pull.{Pulling}
 use Rattle.keeping.proofs.Pull.{outOf, part, pulled, takenOf, spansAfter, Pulled, pulling-next, pulls}
-use Rattle.judging.specs.Rules.{Judge, R9asked}
-use Rattle.judging.specs.Verdict.{recorded, ruled}
-use Rattle.judging.specs.declared.Run.{Run}
+use Rattle.judge_rules.specs.Rules.{Judge, R9asked}
+use Rattle.judge_rules.specs.Verdict.{recorded, ruled}
+use Rattle.judge_rules.specs.declared.Run.{Run}
 use Rattle.agreement.specs.Agrees.{Inside, Serving, Agreeing, Ends}
 use Rattle.agreement.specs.Judges.{Judges}
 use Rattle.agreement.proofs.Judges.{judges-from, judges-to, judges-named, judges-given, judges-and, judges-then, judges-give, judges-change, judges-cond}
@@ -59,7 +60,7 @@ module _ {run : Run} (serving : Serving run) where
     agrees-pulled u v w g =
         agrees-beside none g (record { page = refl; va = refl; counter = refl; pages = refl; roots = refl }) spans
       where
-        spans : (x : ℕ) → x % u .page ≡ 0 → spansAt (pulled n r u) x + none x ≡ spansAt u x + none x
+        spans : (x : ℕ) → x % u .fields .page ≡ 0 → spansAt (pulled n r u) x + none x ≡ spansAt u x + none x
         spans x e =
             let next = pulling-next lost hand bare p lacks c keep r l pos u w in
             omega (
@@ -69,7 +70,7 @@ module _ {run : Run} (serving : Serving run) where
               sum-append (λ z. within (z .start .0) (z .size) x) (u .zombies) (part n r ∷ []),
             )
 
-    pulls-one : (s : ℕ) (u : Tables) (v : Judge) {E : Outcome → Tables → Judge → Type 0} → r .id .0 < u .counter → Agreeing run none [] u v →
+    pulls-one : (s : ℕ) (u : Tables) (v : Judge) {E : Outcome → Tables → Judge → Type 0} → r .id .0 < u .fields .counter → Agreeing run none [] u v →
         Judges (λ t z. (t ≡ u) × (z ≡ v)) (pullOne s lacks r) (λ q t z. (q ≡ part n r) × ((t ≡ pulled n r u) × (z ≡ v))) E
     unfolding pullOne
     pulls-one s u v below g =
@@ -84,7 +85,7 @@ module _ {run : Run} (serving : Serving run) where
         (λ q t z. (q ≡ part n r) × (Pulling lost hand grown p (lacks - n) (spansAfter c lacks r) keep l t × Agreeing run none [] t z)) E
     judges-pullOne s =
         judges-named (λ u v h.
-        let below : r .id .0 < u .counter = member-all (λ q. q .id .0 < u .counter) r (u .free) (h .0 .members .0) (h .0 .sound .freeIds) in
+        let below : r .id .0 < u .fields .counter = member-all (λ q. q .id .0 < u .fields .counter) r (u .free) (h .0 .members .0) (h .0 .sound .freeIds) in
         judges-to (λ q t z e. (e .0, rw (e .1 .0, e .1 .1) (pulling-next lost hand bare p lacks c keep r l pos u (h .0), agrees-pulled u v (h .0) (h .1))))
         (pulls-one s u v below (h .1)))
 
@@ -111,7 +112,7 @@ module _ {run : Run} (serving : Serving run) where
           (λ q. judges-given (λ k. rw k (judges-then (λ _. Agreeing run none []) next (λ zs. judges-give (part n r ∷ zs)))))
 
   -- Pulling as much as lacks, in the order given.
-  pub judges-pull : (lost hand bare : ℕ → ℕ) (p s lacks c : ℕ) (keep l : List FreeRegion) → c ≤ 128 →
+  pub judges-pull : (lost hand bare : ℕ → ℕ) (p s lacks c : ℕ) (keep l : List FreeRegion) → c ≤ SPANS →
       Judges (λ t z. Pulling lost hand bare p lacks c keep l t × Agreeing run none [] t z) (pull l s lacks)
       (λ zs t z. Pulled lost hand bare p lacks c keep l zs t × Agreeing run none [] t z) (Ends run lost)
   judges-pull lost hand bare p s lacks c keep l bound =

@@ -1,5 +1,5 @@
 -- What the judge does with lines, one list after another, and how the premises go with it: the pages that the lines map are those that the judge's state
--- has. Assumes nothing.
+-- has.
 use mathlib.Core.Path.{_≡_, refl, ap, sym, _∙_}
 use mathlib.Core.Bool.{Bool, true, false, cond, not}
 use mathlib.Core.List.{List, [], _∷_, _++_}
@@ -26,16 +26,17 @@ use Rattle.words.specs.declared.Word.the-variants.{
 }
 use Rattle.trace.specs.declared.Line.{Line}
 use Rattle.trace.specs.declared.Reading.the-variants.{Good}
-use Rattle.judging.specs.Said.{said}
-use Rattle.judging.specs.Ranges.{inside}
-use Rattle.judging.specs.Rules.{Judge, Page}
-use Rattle.judging.specs.Verdict as Verdict
-use Rattle.judging.specs.declared.Call.{Call}
-use Rattle.judging.specs.declared.Call.the-variants.{Open, Malloc, Free, Close}
-use Rattle.judging.specs.declared.Said.{Said}
-use Rattle.judging.specs.declared.Said.the-variants.{Record, Call as Calls, Result, Unknown}
-use Rattle.judging.proofs.Laws.{filter-map}
-use Rattle.judging.proofs.Keeps.{ruled-on, sized-on, on-on}
+use Rattle.judge_rules.specs.Sizes.{mostMapped}
+use Rattle.judge_rules.specs.Said.{said}
+use Rattle.judge_rules.specs.Ranges.{inside}
+use Rattle.judge_rules.specs.Rules.{Judge, Page}
+use Rattle.judge_rules.specs.Verdict as Verdict
+use Rattle.judge_rules.specs.declared.Call.{Call}
+use Rattle.judge_rules.specs.declared.Call.the-variants.{Open, Malloc, Free, Close}
+use Rattle.judge_rules.specs.declared.Said.{Said}
+use Rattle.judge_rules.specs.declared.Said.the-variants.{Record, Call as Calls, Result, Unknown}
+use Rattle.judge_rules.proofs.PageLaws.{filter-map}
+use Rattle.judge_rules.proofs.Keeps.{ruled-on, sized-on, on-on}
 use Rattle.agreement.specs.Premises.{reliable, mappedBy, mappedAfterBy, mappedAfter, fewMapped}
 use Rattle.agreement.specs.Judges.{next, read, Fair, addresses}
 
@@ -114,15 +115,15 @@ few-first : (n : List ℕ) (l m : List Line) → fewMapped n (l ++ m) ≡ true �
 few-first n [] m e = refl
 few-first n (x ∷ l) m e =
     let k = mappedAfter x n in
-    let b = both (leb (length k) 4096) (fewMapped k (l ++ m)) e in
-    and-true (leb (length k) 4096) (fewMapped k l) (b .0) (few-first k l m (b .1))
+    let b = both (leb (length k) mostMapped) (fewMapped k (l ++ m)) e in
+    and-true (leb (length k) mostMapped) (fewMapped k l) (b .0) (few-first k l m (b .1))
 
 few-second : (s : Judge) (l m : List Line) (z : Judge) → read s l ≡ Verdict.on z → fewMapped (addresses (s .mapped)) (l ++ m) ≡ true →
     fewMapped (addresses (z .mapped)) m ≡ true
 few-second s [] m z e f = rw (← on-on s z e) f
 few-second s (x ∷ l) m z e f =
     let w = went-on (Verdict.step s (Good x)) (λ y. read y l) z e in
-    let b = both (leb (length (mappedAfter x (addresses (s .mapped)))) 4096) _ f in
+    let b = both (leb (length (mappedAfter x (addresses (s .mapped)))) mostMapped) _ f in
     few-second (w .0) l m z (w .1 .1) (rw (step-mapped s x (w .0) (w .1 .0)) (b .1))
 
 -- Fair lines are fair in parts.

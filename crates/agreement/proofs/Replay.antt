@@ -1,5 +1,5 @@
 -- What replay prints is accepted: where its output is made of well-formed lines, it ended by neither `bad` nor `short`, so that it is the trace of the calls
--- that it ran, each on the answers lent to it. Assumes nothing.
+-- that it ran, each on the answers lent to it.
 use mathlib.Core.Path.{_≡_, refl, sym, ap, _∙_, subst}
 use mathlib.Core.Bool.{Bool, true, false, cond, false≢true}
 use mathlib.Core.List.{List, [], _∷_, _++_, map}
@@ -9,33 +9,31 @@ use lib.ListN.{take}
 use Rattle.lists.specs.Walks.{joined}
 use Rattle.lists.proofs.Walks.{joined-append}
 use Rattle.words.specs.declared.Record.{Record}
+use Rattle.tables.specs.Bounds.{LOG}
 use Rattle.tables.specs.Values.{closedPool}
 use Rattle.tables.specs.Outcomes.{numbers, is}
 use Rattle.tables.specs.HandsBack.{Reply}
 use Rattle.tables.specs.Open.{openPool}
-use Rattle.tables.specs.Malloc.{malloc}
-use Rattle.tables.specs.Free.{free}
-use Rattle.tables.specs.Close.{close}
+use Rattle.tables.specs.Calls.{answer}
 use Rattle.tables.specs.declared.Pool.{Pool}
 use Rattle.trace.specs.Form.{ascii, printed, badLine, shortLine}
-use Rattle.trace.specs.Kinds.{ofRecord, openLine, mallocLine, freeLine, closeLine}
+use Rattle.trace.specs.Kinds.{ofRecord, openLine}
 use Rattle.trace.specs.Lines.{linesOf}
 use Rattle.trace.specs.declared.Line.{Line}
 use Rattle.trace.specs.declared.Reading.{Reading}
 use Rattle.trace.specs.declared.Reading.the-variants.{Good, Malformed}
 use Rattle.trace.proofs.Theorems.{bad-is-malformed, short-is-malformed}
-use Rattle.gathering.specs.Lending.{isDriver, isResult, Passed, passed}
-use Rattle.printing.specs.Records.{printedAll}
-use Rattle.printing.specs.Traced.{isOpen, isMalloc, isFree, callLine, resultOf}
-use Rattle.replayed.specs.Replay as Replay
-use Rattle.replayed.specs.Replay.{Waiting, waits, lends, traced, ran, replayFrom, replayLines, replayedShowing, replayed}
-use Rattle.replayed.proofs.Passed.{lent}
-use Rattle.judging.specs.Verdict.{verdict}
-use Rattle.judging.specs.Meaning.{SoundAfter, newestFirst}
-use Rattle.judging.specs.declared.Verdict.the-variants.{Accepted}
-use Rattle.judging.proofs.Accepted.{accepted-means}
-use Rattle.agreement.specs.Runs as Runs
-use Rattle.agreement.specs.Runs.{mallocs, frees, closes, Lent, opened, answered, lineOf, entry, traceFrom, traceOf}
+use Rattle.replay_answers.specs.Lending.{isDriver, isResult, Passed, passed}
+use Rattle.replay_lines.specs.Records.{printedAll}
+use Rattle.replay_lines.specs.Traced.{isOpen, callOf, lineOf, callLine, resultOf}
+use Rattle.replay_rules.specs.Replay as Replay
+use Rattle.replay_rules.specs.Replay.{Waiting, waits, lends, traced, ran, replayFrom, replayLines, replayedShowing, replayed}
+use Rattle.replay_rules.proofs.Passed.{lent}
+use Rattle.judge_rules.specs.Verdict.{verdict}
+use Rattle.judge_rules.specs.Meaning.{SoundAfter, newestFirst}
+use Rattle.judge_rules.specs.declared.Verdict.the-variants.{Accepted}
+use Rattle.judge_rules.proofs.Accepted.{accepted-means}
+use Rattle.agreement.specs.Runs.{Lent, opened, entry, traceFrom, traceOf}
 use Rattle.agreement.specs.Premises.{Premises}
 use Rattle.agreement.specs.Replays.{openingBy, openingIn, openingOf}
 use Rattle.agreement.proofs.Accepted.{accepted}
@@ -50,32 +48,16 @@ short-ends : {A : Type 0} (n : ℕ) (lines : List Line) → linesOf (shortLine n
 unfolding shortLine
 short-ends n lines = not-good (ascii "short") n 0 0 lines (refl, (refl, (refl, (refl, (refl, tt))))) (short-is-malformed n)
 
--- the call that a line asks for
-abbrev callIn : Line → Runs.Call
-callIn l = cond (isMalloc l) (mallocs (l .first) (l .second)) (cond (isFree l) (frees (l .first)) closes)
-
 abbrev lentTo : Waiting → Lent
-lentTo w = record { call = callIn (w .call); answers = w .answers; log = 2048 }
+lentTo w = record { call = callOf (w .call); answers = w .answers; log = LOG }
 
-call-line : (l : Line) → isOpen l ≡ false → callLine l ≡ lineOf (callIn l)
+call-line : (l : Line) → isOpen l ≡ false → callLine l ≡ lineOf (callOf l)
 unfolding callLine
-call-line l e = rw e (go (isMalloc l) (isFree l))
-  where
-    go : (a b : Bool) → cond a (mallocLine (l .first) (l .second)) (cond b (freeLine (l .first)) closeLine) ≡
-        lineOf (cond a (mallocs (l .first) (l .second)) (cond b (frees (l .first)) closes))
-    go true b = refl
-    go false true = refl
-    go false false = refl
+call-line l e = rw e refl
 
-call-answer : (p : Pool) (w : Waiting) → isOpen (w .call) ≡ false → Replay.answered p w ≡ answered p (callIn (w .call)) (w .answers) 2048
+call-answer : (p : Pool) (w : Waiting) → isOpen (w .call) ≡ false → Replay.answered p w ≡ answer p (callOf (w .call)) (w .answers) LOG
 unfolding Replay.answered
-call-answer p w e = rw e (go (isMalloc (w .call)) (isFree (w .call)))
-  where
-    go : (a b : Bool) → cond a (malloc p (w .call .first) (w .call .second) (w .answers) 2048) (cond b (free p (w .call .first) (w .answers) 2048) (close p (w .answers) 2048)) ≡
-        answered p (cond a (mallocs (w .call .first) (w .call .second)) (cond b (frees (w .call .first)) closes)) (w .answers) 2048
-    go true b = refl
-    go false true = refl
-    go false false = refl
+call-answer p w e = rw e refl
 
 open-line : (l : Line) → isOpen l ≡ true → callLine l ≡ openLine (l .first) (l .second) (l .third)
 unfolding callLine

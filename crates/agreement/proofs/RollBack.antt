@@ -1,5 +1,5 @@
 -- Rolling back: each new page is unmapped, where it is mapped and no live buffer lies, and its handle released, which no other page has ever had; then
--- the range is a hole again and nothing is mapped that is in no table. Assumes nothing.
+-- the range is a hole again and nothing is mapped that is in no table.
 use mathlib.Core.Path.{_≡_, refl, sym, _∙_}
 use mathlib.Core.Logic.{inl, inr, ⊎-elim}
 use mathlib.Core.Bool.{true, false, true≢false, _&&_, not}
@@ -30,10 +30,10 @@ use Rattle.keeping.proofs.Whole.{aligned-add, within-page}
 use Rattle.keeping.proofs.Counting.{rises-once}
 use Rattle.keeping.proofs.Sounds.{sound-once}
 use Rattle.keeping.proofs.NewPages.{Unmaking, count-others, unmade, pages-new, unmaking-begins, rolls-back}
-use Rattle.judging.specs.Ranges.{inside}
-use Rattle.judging.specs.Rules.{Judge, Page, R4, R5}
-use Rattle.judging.specs.Verdict.{recorded, ruled, unmapped, released}
-use Rattle.judging.specs.declared.Run.{Run}
+use Rattle.judge_rules.specs.Ranges.{inside}
+use Rattle.judge_rules.specs.Rules.{Judge, Page, R4, R5}
+use Rattle.judge_rules.specs.Verdict.{recorded, ruled, unmapped, released}
+use Rattle.judge_rules.specs.declared.Run.{Run}
 use Rattle.agreement.specs.Agrees.{mappedAt, heldAt, Serving, Agreeing, Ended, Ends}
 use Rattle.agreement.specs.Judges.{Judges}
 use Rattle.agreement.proofs.Judges.{judges-from, judges-to, judges-and, judges-then, judges-end, judges-looked, judges-change, judges-each}
@@ -69,29 +69,29 @@ InRange p s n m = All (λ g. (s ≤ at g) × (at g + p ≤ s + n)) m
 
 module _ {lost : ℕ → ℕ} {s n : ℕ} {g : Pool.Page} {m : List Pool.Page} {t : Tables} (w : Unmaking lost s n (g ∷ m) t) where
   -- the page is a range of its own, in hand
-  page-range : WholeRange (t .page) (at g) (t .page)
+  page-range : WholeRange (t .fields .page) (at g) (t .fields .page)
   page-range =
       record {
         start = member-all _ g (t .pages) (w .here .0) (w .sound .pages);
-        size = record { positive = w .sound .page; aligned = mod-self (t .page) };
+        size = record { positive = w .sound .page; aligned = mod-self (t .fields .page) };
       }
 
   handle-gone : handlesAt (without at (at g) (t .pages)) (g .handle .0) ≡ 0
   handle-gone = omega (arith, count-others w (λ q. equal (q .handle .0) (g .handle .0)), w .sound .handlesOnce (g .handle .0), equal-same (g .handle .0))
 
   -- what is mapped still has another handle
-  handle-free : (z : Judge) → Alone z g → All (λ q. q .handle ≡ g .handle .0 → ⊥) (unmapped z (at g) (t .page) .mapped)
-  handle-free z alone = all-members _ (unmapped z (at g) (t .page) .mapped) other
+  handle-free : (z : Judge) → Alone z g → All (λ q. q .handle ≡ g .handle .0 → ⊥) (unmapped z (at g) (t .fields .page) .mapped)
+  handle-free z alone = all-members _ (unmapped z (at g) (t .fields .page) .mapped) other
     where
-      other : (q : Page) → Member q (unmapped z (at g) (t .page) .mapped) → q .handle ≡ g .handle .0 → ⊥
+      other : (q : Page) → Member q (unmapped z (at g) (t .fields .page) .mapped) → q .handle ≡ g .handle .0 → ⊥
       other q i e =
-          let f = member-filter (λ (p : Page). not (inside (at g) (t .page) (p .at))) q (z .mapped) i in
+          let f = member-filter (λ (p : Page). not (inside (at g) (t .fields .page) (p .at))) q (z .mapped) i in
           let here : q .at ≡ at g = member-all _ q (z .mapped) (f .0) alone e in
-          true≢false (sym (inside-self (t .page) (at g) (w .sound .page)) ∙ not-true (inside (at g) (t .page) (at g)) (rw here at (f .1)))
+          true≢false (sym (inside-self (t .fields .page) (at g) (w .sound .page)) ∙ not-true (inside (at g) (t .fields .page) (at g)) (rw here at (f .1)))
 
-  module _ (range : InRange (t .page) s n (g ∷ m)) where
-    page-in-hand : (x : ℕ) → within (at g) (t .page) x ≤ within s n x
-    page-in-hand x = within-part (at g) (t .page) s n x (range .0 .0) (range .0 .1)
+  module _ (range : InRange (t .fields .page) s n (g ∷ m)) where
+    page-in-hand : (x : ℕ) → within (at g) (t .fields .page) x ≤ within s n x
+    page-in-hand x = within-part (at g) (t .fields .page) s n x (range .0 .0) (range .0 .1)
 
     -- no table's range lies there, and no other new page
     page-alone : spansAt t (at g) + pagesAt m (at g) ≡ 0
@@ -104,34 +104,34 @@ module _ {lost : ℕ → ℕ} {s n : ℕ} {g : Pool.Page} {m : List Pool.Page} {
           equal-same (at g),
         )
 
-    meets-unmap : {run : Run} {z : Judge} → Agreeing run (pagesAt (g ∷ m)) [] t z → R4 z (at g) (t .page) ≡ true
+    meets-unmap : {run : Run} {z : Judge} → Agreeing run (pagesAt (g ∷ m)) [] t z → R4 z (at g) (t .fields .page) ≡ true
     unfolding R4
     meets-unmap {z = z} r =
-        rw (agrees-page r, whole-mapped (t .page) (at g) (t .page) (z .mapped) (w .sound .page) page-range there)
-        (none-live (t .page) (at g) (t .page) (z .live) (t .live) (r .buffers) (w .sound .page) (w .sound .live)
+        rw (agrees-page r, whole-mapped (t .fields .page) (at g) (t .fields .page) (z .mapped) (w .sound .page) page-range there)
+        (none-live (t .fields .page) (at g) (t .fields .page) (z .live) (t .live) (r .buffers) (w .sound .page) (w .sound .live)
         (λ x. omega (arith, page-in-hand x, sound-once (w .sound) x)))
       where
-        there : (x : ℕ) → x % t .page ≡ 0 → at g ≤ x → x < at g + t .page → 0 < mappedAt (z .mapped) x
+        there : (x : ℕ) → x % t .fields .page ≡ 0 → at g ≤ x → x < at g + t .fields .page → 0 < mappedAt (z .mapped) x
         there x e p q =
             omega (
               arith,
               r .mapped x e,
-              within-page (t .page) (at g) x (w .sound .page) (page-range .start .aligned) e,
-              within-in (at g) (t .page) x p q,
+              within-page (t .fields .page) (at g) x (w .sound .page) (page-range .start .aligned) e,
+              within-in (at g) (t .fields .page) x p q,
             )
 
 module _ {run : Run} (serving : Serving run) where
   -- Tables and judge while the new pages `m` are still to be taken out,
   record RollingBack (lost : ℕ → ℕ) (s n : ℕ) (m : List Pool.Page) (t : Tables) (z : Judge) : Type 0 where
     tables : Unmaking lost s n m t
-    range : InRange (t .page) s n m
+    range : InRange (t .fields .page) s n m
     agrees : Agreeing run (pagesAt m) [] t z
     alone : All (Alone z) m
 
   -- and where the handle `h` is still held beside, but on no page, neither an active one nor a mapped one.
   record Loose (lost : ℕ → ℕ) (s n h : ℕ) (m : List Pool.Page) (t : Tables) (z : Judge) : Type 0 where
     tables : Unmaking lost s n m t
-    range : InRange (t .page) s n m
+    range : InRange (t .fields .page) s n m
     agrees : Agreeing run (pagesAt m) (h ∷ []) t z
     alone : All (Alone z) m
     active : handlesAt (t .pages) h ≡ 0
@@ -139,13 +139,13 @@ module _ {run : Run} (serving : Serving run) where
 
   module _ {lost : ℕ → ℕ} {s n : ℕ} {m : List Pool.Page} {t : Tables} {z : Judge} where
     accepts-unmap : {g : Pool.Page} → RollingBack lost s n (g ∷ m) t z →
-        Accepts Unmap (at g) (t .page) z (Loose lost s n (g .handle .0) m (withPages (without at (at g) (t .pages)) t))
+        Accepts Unmap (at g) (t .fields .page) z (Loose lost s n (g .handle .0) m (withPages (without at (at g) (t .pages)) t))
     unfolding recorded ruled
     accepts-unmap {g} r =
         let w = r .tables in
         record {
           inside = agrees-inside serving (r .agrees);
-          state = unmapped z (at g) (t .page);
+          state = unmapped z (at g) (t .fields .page);
           accepts = rw (agrees-seen serving (r .agrees), meets-unmap w (r .range) (r .agrees));
           holds =
               record {
@@ -176,7 +176,7 @@ module _ {run : Run} (serving : Serving run) where
     unmakes g m =
         judges-looked (λ u.
         judges-then (λ _ t. Loose lost s n (g .handle .0) m (withPages (without at (at g) (t .pages)) t))
-        (judges-try Unmap (at g) (u .page) (λ _. refl) (λ t z q few. rw (q .0) (accepts-unmap (q .1)))) (λ _.
+        (judges-try Unmap (at g) (u .fields .page) (λ _. refl) (λ t z q few. rw (q .0) (accepts-unmap (q .1)))) (λ _.
         judges-then (λ _. Loose lost s n (g .handle .0) m) (judges-change _ (λ t z q. q)) (λ _.
         judges-try Release (g .handle .0) 0 (λ _. refl) (λ t z q few. accepts-release q))))
 
@@ -201,12 +201,12 @@ module _ {run : Run} (serving : Serving run) where
             let b = both (leb s (at g)) (ltb (at g) a) (q .1) in
             (q .0, (leb-true s (at g) (b .0), ltb-true (at g) a (b .1)))
 
-        ranged : (g : Pool.Page) → Member g (newPages o a (t .pages)) → (s ≤ at g) × (at g + t .page ≤ s + o .size)
+        ranged : (g : Pool.Page) → Member g (newPages o a (t .pages)) → (s ≤ at g) × (at g + t .fields .page ≤ s + o .size)
         ranged g i =
             let q = isNew g i in
-            let e : (s + o .size) % t .page ≡ 0 = aligned-add (t .page) s (o .size) (w .start .aligned) (w .size .aligned) in
-            let here : at g % t .page ≡ 0 = member-all _ g (t .pages) (q .0) (w .sound .pages) .aligned in
-            (q .1 .0, aligned-below (t .page) (s + o .size) (at g) e here (omega (arith, q .1 .1, w .fits)))
+            let e : (s + o .size) % t .fields .page ≡ 0 = aligned-add (t .fields .page) s (o .size) (w .start .aligned) (w .size .aligned) in
+            let here : at g % t .fields .page ≡ 0 = member-all _ g (t .pages) (q .0) (w .sound .pages) .aligned in
+            (q .1 .0, aligned-below (t .fields .page) (s + o .size) (at g) e here (omega (arith, q .1 .1, w .fits)))
 
         alone : (g : Pool.Page) → Member g (newPages o a (t .pages)) → Alone z g
         alone g i = let q = isNew g i in member-all _ g (t .pages) (q .0) fresh (q .1 .0) (q .1 .1)

@@ -1,4 +1,4 @@
--- A run: call after call, the judge accepts what enters the trace, and what stands after one call stands before the next. Assumes nothing.
+-- A run: call after call, the judge accepts what enters the trace, and what stands after one call stands before the next.
 use mathlib.Core.Path.{_≡_, refl, sym, _∙_, subst}
 use mathlib.Core.Bool.{Bool, true, false, cond}
 use mathlib.Core.List.{List, [], _∷_, _++_, map}
@@ -12,17 +12,17 @@ use Rattle.tables.specs.HandsBack.{Reply, refused, admitted}
 use Rattle.tables.specs.Malloc.{mallocBy}
 use Rattle.tables.specs.Free.{free}
 use Rattle.tables.specs.Close.{close}
+use Rattle.tables.specs.Calls.{Call, mallocs, frees, closes, answer}
 use Rattle.tables.specs.declared.Pool.{Pool}
 use Rattle.tables.specs.declared.Outcome.{Outcome}
 use Rattle.tables.specs.declared.Outcome.the-variants.{PoolClosed}
-use Rattle.answering.proofs.Unchanged.{malloc-unchanged, free-unchanged, close-unchanged}
+use Rattle.answering.proofs.Unchanged.{call-unchanged}
 use Rattle.trace.specs.Kinds.{ofRecord}
 use Rattle.trace.specs.declared.Line.{Line}
-use Rattle.judging.specs.Said.{said}
-use Rattle.judging.specs.Rules.{Judge}
-use Rattle.printing.specs.Traced.{resultOf}
-use Rattle.agreement.specs.Runs as Runs
-use Rattle.agreement.specs.Runs.{mallocs, frees, closes, Lent, answered, lineOf, entry, traceFrom}
+use Rattle.judge_rules.specs.Said.{said}
+use Rattle.judge_rules.specs.Rules.{Judge}
+use Rattle.replay_lines.specs.Traced.{lineOf, resultOf}
+use Rattle.agreement.specs.Runs.{Lent, entry, traceFrom}
 use Rattle.agreement.specs.Premises.{credible}
 use Rattle.agreement.specs.Judges.{Reach, Fair, addresses, excused}
 use Rattle.agreement.proofs.Reading.{read-append, fair-first, fair-second, every-first}
@@ -32,14 +32,8 @@ use Rattle.agreement.proofs.MallocCall.{malloc-read}
 use Rattle.agreement.proofs.FreeCall.{free-read}
 use Rattle.agreement.proofs.CloseCall.{close-read}
 
--- 17 leaves the pool as it came.
-short-same : (c : Runs.Call) (p : Pool) (xs : List ℕ) (log : ℕ) → is 17 (answered p c xs log .outcome) ≡ true → answered p c xs log .pool ≡ p
-short-same (mallocs n k) p xs log e = malloc-unchanged p n k xs log .short e
-short-same (frees a) p xs log e = free-unchanged p a xs log .short e
-short-same closes p xs log e = close-unchanged p xs log .short e
-
 -- A closed pool answers 1.
-closed-answers : (c : Runs.Call) (xs : List ℕ) (log : ℕ) → answered closedPool c xs log ≡ refused closedPool PoolClosed
+closed-answers : (c : Call) (xs : List ℕ) (log : ℕ) → answer closedPool c xs log ≡ refused closedPool PoolClosed
 unfolding mallocBy free close admitted poolOf
 closed-answers (mallocs n k) xs log = refl
 closed-answers (frees a) xs log = refl
@@ -65,29 +59,29 @@ rests p s (stands h) = (h .opens, h .waiting)
 rests p s (ended h) = (h .opens, h .waiting)
 
 -- One call that enters the trace.
-call-read : (c : Runs.Call) (p : Pool) (s : Judge) (xs : List ℕ) (log : ℕ) → Standing p s → Read c p s (answered p c xs log)
+call-read : (c : Call) (p : Pool) (s : Judge) (xs : List ℕ) (log : ℕ) → Standing p s → Read c p s (answer p c xs log)
 call-read (mallocs n k) p s xs log (stands h) = malloc-read n k p s h xs log
 call-read (frees a) p s xs log (stands h) = free-read p s h a xs log
 call-read closes p s xs log (stands h) = close-read p s h xs log
 call-read c p s xs log (ended h) =
-    let e : answered p c xs log ≡ refused p PoolClosed = subst (λ p. answered p c xs log ≡ refused p PoolClosed) (sym (h .pool)) (closed-answers c xs log) in
+    let e : answer p c xs log ≡ refused p PoolClosed = subst (λ p. answer p c xs log ≡ refused p PoolClosed) (sym (h .pool)) (closed-answers c xs log) in
     subst (Read c p s) (sym e) (λ _ _. over-read c p s h)
 
 pub run-read : (cs : List Lent) (p : Pool) (s : Judge) → Standing p s → Fair (addresses (s .mapped)) (traceFrom p cs) → every credible (traceFrom p cs) ≡ true →
     Reach s (traceFrom p cs) Rests
 run-read [] p s h fair cred = record { state = s; reads = refl; holds = rests p s h }
 run-read (c ∷ cs) p s h fair cred =
-    go (is 17 (answered p (c .call) (c .answers) (c .log) .outcome)) refl fair cred (run-read cs (answered p (c .call) (c .answers) (c .log) .pool))
+    go (is 17 (answer p (c .call) (c .answers) (c .log) .outcome)) refl fair cred (run-read cs (answer p (c .call) (c .answers) (c .log) .pool))
   where
     r : Reply
-    r = answered p (c .call) (c .answers) (c .log)
+    r = answer p (c .call) (c .answers) (c .log)
 
     go : (b : Bool) → is 17 (r .outcome) ≡ b →
         Fair (addresses (s .mapped)) (cond b (traceFrom (r .pool) cs) (entry (lineOf (c .call)) r ++ traceFrom (r .pool) cs)) →
         every credible (cond b (traceFrom (r .pool) cs) (entry (lineOf (c .call)) r ++ traceFrom (r .pool) cs)) ≡ true →
         ((z : Judge) → Standing (r .pool) z → Fair (addresses (z .mapped)) (traceFrom (r .pool) cs) → every credible (traceFrom (r .pool) cs) ≡ true → Reach z (traceFrom (r .pool) cs) Rests) →
         Reach s (cond b (traceFrom (r .pool) cs) (entry (lineOf (c .call)) r ++ traceFrom (r .pool) cs)) Rests
-    go true e f d more = more s (subst (λ q. Standing q s) (sym (short-same (c .call) p (c .answers) (c .log) e)) h) f d
+    go true e f d more = more s (subst (λ q. Standing q s) (sym (call-unchanged p (c .call) (c .answers) (c .log) .short e)) h) f d
     go false e f d more =
         let ls = entry (lineOf (c .call)) r in
         let rest = traceFrom (r .pool) cs in

@@ -1,4 +1,4 @@
--- Lists with the same elements, in whatever order: they pass the same tests and have the same length. Assumes nothing.
+-- Lists with the same elements, in whatever order: they pass the same tests and have the same length.
 use mathlib.Core.Path.{_≡_, refl, sym, _∙_}
 use mathlib.Core.Logic.{inl, inr}
 use mathlib.Core.Bool.{Bool, true, false, false≢true, cond, _&&_, _||_}

@@ -1,4 +1,4 @@
--- What stands between calls, and the calls that change nothing: refusals, and every call of a pool that was closed. Assumes nothing.
+-- What stands between calls, and the calls that change nothing: refusals, and every call of a pool that was closed.
 use mathlib.Core.Path.{_≡_, refl, _∙_}
 use mathlib.Core.Bool.{true, false}
 use mathlib.Core.List.{List, [], _∷_}
@@ -6,20 +6,20 @@ use Prim.Native.Nat.{ℕ}
 use Rattle.tables.specs.Values.{Tables, opened, poolOf, closedPool}
 use Rattle.tables.specs.Outcomes.{numbers, is}
 use Rattle.tables.specs.HandsBack.{refused}
+use Rattle.tables.specs.Calls.{Call, mallocs, frees, closes}
 use Rattle.tables.specs.declared.Pool.{Pool}
 use Rattle.tables.specs.declared.LiveBuffer.{LiveBuffer}
 use Rattle.tables.specs.declared.Outcome.{Outcome}
 use Rattle.tables.specs.declared.Outcome.the-variants.{PoolClosed}
 use Rattle.trace.specs.declared.Reading.the-variants.{Good}
 use Rattle.keeping.specs.Sound.{none, Kept}
-use Rattle.judging.specs.Rules.{Judge}
-use Rattle.judging.specs.Verdict as Verdict
-use Rattle.judging.specs.declared.Run.{Run}
-use Rattle.judging.specs.declared.Call.{Call}
-use Rattle.judging.specs.declared.Call.the-variants.{Malloc, Free, Close}
-use Rattle.printing.specs.Traced.{resultOf}
-use Rattle.agreement.specs.Runs as Runs
-use Rattle.agreement.specs.Runs.{mallocs, frees, closes, lineOf, entry}
+use Rattle.judge_rules.specs.Rules.{Judge}
+use Rattle.judge_rules.specs.Verdict as Verdict
+use Rattle.judge_rules.specs.declared.Run.{Run}
+use Rattle.judge_rules.specs.declared.Call.{Call as Asked}
+use Rattle.judge_rules.specs.declared.Call.the-variants.{Malloc, Free, Close}
+use Rattle.replay_lines.specs.Traced.{lineOf, resultOf}
+use Rattle.agreement.specs.Runs.{entry}
 use Rattle.agreement.specs.Agrees.{Inside, Agrees, Agreeing}
 use Rattle.agreement.specs.Judges.{Reach}
 use Rattle.agreement.proofs.Entries.{step-malloc, step-free, step-close, step-result, step-over, reach-entry}
@@ -47,15 +47,15 @@ pub data Standing (p : Pool) (s : Judge) : Type 0 where
   ended : Over p s → Standing p s
 
 -- the judge's call of a call, and the state after its line
-abbrev pub callOf : Runs.Call → Call
+abbrev pub callOf : Call → Asked
 callOf (mallocs n k) = Malloc
 callOf (frees a) = Free
 callOf closes = Close
 
-abbrev pub calling : Runs.Call → Judge → Judge
+abbrev pub calling : Call → Judge → Judge
 calling c s = Verdict.called (callOf c) s (lineOf c)
 
-pub step-call : (c : Runs.Call) (s : Judge) → s .run .opened ≡ true → s .run .waiting ≡ false → Verdict.step s (Good (lineOf c)) ≡ Verdict.on (calling c s)
+pub step-call : (c : Call) (s : Judge) → s .run .opened ≡ true → s .run .waiting ≡ false → Verdict.step s (Good (lineOf c)) ≡ Verdict.on (calling c s)
 step-call (mallocs n k) s o w = step-malloc n k s (o, w)
 step-call (frees a) s o w = step-free a s (o, w)
 step-call closes s o w = step-close s (o, w)
@@ -78,10 +78,10 @@ agrees-run other p v g =
       last = g .last;
     }
 
-pub inside-calling : (c : Runs.Call) (s : Judge) → s .run .over ≡ false → Inside (calling c s .run)
+pub inside-calling : (c : Call) (s : Judge) → s .run .over ≡ false → Inside (calling c s .run)
 inside-calling c s v = record { opened = refl; waiting = refl; over = v }
 
-pub agrees-calling : (c : Runs.Call) {new : ℕ → ℕ} {spare : List ℕ} {live : List LiveBuffer} {t : Tables} {s : Judge} → Agrees (s .run) new spare live t s →
+pub agrees-calling : (c : Call) {new : ℕ → ℕ} {spare : List ℕ} {live : List LiveBuffer} {t : Tables} {s : Judge} → Agrees (s .run) new spare live t s →
     Agrees (calling c s .run) new spare live t (calling c s)
 agrees-calling (mallocs n k) g = agrees-run _ refl refl g
 agrees-calling (frees a) g = agrees-run _ refl refl g
@@ -97,7 +97,7 @@ result-read o s e i R r =
     }
 
 -- A refusal.
-pub refused-read : (c : Runs.Call) (p : Pool) (s : Judge) (o : Outcome) → is 0 o ≡ false → Stands p s → Reach s (entry (lineOf c) (refused p o)) (Standing p)
+pub refused-read : (c : Call) (p : Pool) (s : Judge) (o : Outcome) → is 0 o ≡ false → Stands p s → Reach s (entry (lineOf c) (refused p o)) (Standing p)
 refused-read c p s o e h =
     reach-entry s (calling c s) (lineOf c) (step-call c s (h .opens) (h .waiting)) [] (resultOf (numbers o)) (Standing p)
     (record {
@@ -116,7 +116,7 @@ refused-read c p s o e h =
     })
 
 -- A call of a closed pool.
-pub over-read : (c : Runs.Call) (p : Pool) (s : Judge) → Over p s → Reach s (entry (lineOf c) (refused p PoolClosed)) (Standing p)
+pub over-read : (c : Call) (p : Pool) (s : Judge) → Over p s → Reach s (entry (lineOf c) (refused p PoolClosed)) (Standing p)
 over-read c p s h =
     reach-entry s (calling c s) (lineOf c) (step-call c s (h .opens) (h .waiting)) [] (resultOf (numbers PoolClosed)) (Standing p)
     (record {

@@ -1,11 +1,11 @@
 -- Taking a range. A hole that is cut tells the judge nothing. A new root is read as a reservation: the judge finds its base credible just where the pool does,
--- since the reservations are the roots; where the pool does not, the call ends in 15. Assumes nothing.
+-- since the reservations are the roots; where the pool does not, the call ends in 15.
 use mathlib.Core.Path.{_≡_, refl, ap, sym, _∙_}
 use mathlib.Core.Logic.{_⊎_, inl, inr}
 use mathlib.Core.Bool.{Bool, true, false, not, false≢true}
 use mathlib.Core.List.{List, [], _∷_, _++_}
 use mathlib.Core.Option.{Option, some, none}
-use Prim.Native.Nat.{ℕ, suc, _+_, _-_, _≤_, _<_, _%_, _^_}
+use Prim.Native.Nat.{ℕ, suc, _+_, _-_, _≤_, _<_, _%_}
 use native.Mathlib.Omega.{arith}
 use borrow.Author.Tests.{leb-true, le-leb, eq-eqb, ne-eqb}
 use lib.Dec.{leb, eqb}
@@ -16,6 +16,7 @@ use Rattle.words.specs.Answers.{codeOf, valueOf, failed}
 use Rattle.words.specs.declared.Answer.{Answer}
 use Rattle.words.specs.declared.Answer.the-variants.{Done, Failed, Missing}
 use Rattle.words.specs.declared.Word.the-variants.{Reserve}
+use Rattle.tables.specs.Bounds.{END, VA}
 use Rattle.tables.specs.Values.{Tables, address, withRoots}
 use Rattle.tables.specs.Steps.{Step, _>>=_, _>>_, give, endIf, changeHoles, addRoot}
 use Rattle.tables.specs.InsertHole.{from, insertHole}
@@ -29,11 +30,11 @@ use Rattle.keeping.specs.Sound.{Whole, Kept}
 use Rattle.keeping.specs.MakeRoom.{TakesFrom}
 use Rattle.keeping.proofs.Counts.{few-ceilings}
 use Rattle.keeping.proofs.TakeRange.{rooted, Reserved, reserves-root, TakenRange, takes-range}
-use Rattle.judging.specs.Ranges as Ranges
-use Rattle.judging.specs.Rules.{Judge, R1}
-use Rattle.judging.specs.Rules as Rules
-use Rattle.judging.specs.Verdict.{recorded, ruled, sized, reserved}
-use Rattle.judging.specs.declared.Run.{Run}
+use Rattle.judge_rules.specs.Ranges as Ranges
+use Rattle.judge_rules.specs.Rules.{Judge, R1}
+use Rattle.judge_rules.specs.Rules as Rules
+use Rattle.judge_rules.specs.Verdict.{recorded, ruled, sized, reserved}
+use Rattle.judge_rules.specs.declared.Run.{Run}
 use Rattle.agreement.specs.Agrees.{Serving, Agreeing, Ended, Ends}
 use Rattle.agreement.specs.Judges.{Reach, Judges}
 use Rattle.agreement.proofs.Judges.{judges-from, judges-to, judges-and, judges-then, judges-give, judges-end, judges-given, judges-looked, judges-known, judges-change, judges-endIf, judges-never}
@@ -43,29 +44,29 @@ use Rattle.agreement.proofs.Meets.{agrees-inside, agrees-seen}
 use Rattle.agreement.proofs.Agrees.{agrees-page, agrees-holes}
 
 module _ {run : Run} (serving : Serving run) where
-  module _ {u : Tables} {s : Judge} (g : Agreeing run S.none [] u s) (small : u .va ≤ 2 ^ 46) (whole : Whole (u .page) (u .va)) (b : ℕ) (c : credible b u ≡ true) where
+  module _ {u : Tables} {s : Judge} (g : Agreeing run S.none [] u s) (small : u .fields .va ≤ VA) (whole : Whole (u .fields .page) (u .fields .va)) (b : ℕ) (c : credible b u ≡ true) where
     -- A base that the pool finds credible, the judge does.
-    reserve-meets : R1 s b (u .va) ≡ true
+    reserve-meets : R1 s b (u .fields .va) ≡ true
     unfolding credible R1 Rules.credible
     reserve-meets =
-        let va : s .run .va ≡ u .va = ap (λ (r : Run). r .va) (g .runs) ∙ g .va in
+        let va : s .run .va ≡ u .fields .va = ap (λ (r : Run). r .va) (g .runs) ∙ g .va in
         let start = both (not (eqb b 0)) _ c in
-        let aligned = both (eqb (b % u .page) 0) _ (start .1) in
-        let fits = both (leb b (2 ^ 63 - u .va)) _ (aligned .1) in
-        let clear = same-every (g .reservations) (λ r. Ranges.clear b (u .va) (r .base) (r .size)) (fits .1) in
+        let aligned = both (eqb (b % u .fields .page) 0) _ (start .1) in
+        let fits = both (leb b (END - u .fields .va)) _ (aligned .1) in
+        let clear = same-every (g .reservations) (λ r. Ranges.clear b (u .fields .va) (r .base) (r .size)) (fits .1) in
         rw (
           agrees-page g,
           va,
           start .0,
           aligned .0,
-          le-leb (b + u .va) (2 ^ 63) (omega (arith, leb-true b (2 ^ 63 - u .va) (fits .0))),
+          le-leb (b + u .fields .va) END (omega (arith, leb-true b (END - u .fields .va) (fits .0))),
           clear,
-          eq-eqb (u .va) (u .va) refl,
-          ne-eqb (u .va) 0 (λ e. omega (arith, whole .positive)),
-          eq-eqb (u .va % u .page) 0 (whole .aligned),
+          eq-eqb (u .fields .va) (u .fields .va) refl,
+          ne-eqb (u .fields .va) 0 (λ e. omega (arith, whole .positive)),
+          eq-eqb (u .fields .va % u .fields .page) 0 (whole .aligned),
         )
 
-    agrees-rooted : (n : ℕ) → Agreeing run S.none [] (rooted n b u) (reserved s b (u .va))
+    agrees-rooted : (n : ℕ) → Agreeing run S.none [] (rooted n b u) (reserved s b (u .fields .va))
     agrees-rooted n =
         record {
           runs = g .runs;
@@ -81,12 +82,12 @@ module _ {run : Run} (serving : Serving run) where
           last = g .last;
         }
 
-    accepts-reserve : length (u .roots) < 16 → {R : Judge → Type 0} → R (reserved s b (u .va)) → Accepts Reserve b (u .va) s R
+    accepts-reserve : length (u .roots) < 16 → {R : Judge → Type 0} → R (reserved s b (u .fields .va)) → Accepts Reserve b (u .fields .va) s R
     unfolding recorded ruled sized
     accepts-reserve room r =
         record {
           inside = agrees-inside serving g;
-          state = reserved s b (u .va);
+          state = reserved s b (u .fields .va);
           accepts =
               rw (agrees-seen serving g, reserve-meets, same-length (g .reservations), le-leb (suc (length (u .roots))) 16 room);
           holds = r;
@@ -96,10 +97,10 @@ module _ {run : Run} (serving : Serving run) where
     -- what the pool does with the answer
     abbrev takesRoot : Answer → Step ℕ
     takesRoot x = do
-      endIf (failed x) (ReserveFailed (u .va) (u .page))
+      endIf (failed x) (ReserveFailed (u .fields .va) (u .fields .page))
       endIf (not (credible (valueOf x) u)) Incredible
       addRoot (valueOf x)
-      changeHoles (insertHole (valueOf x + n) (u .va - n))
+      changeHoles (insertHole (valueOf x + n) (u .fields .va - n))
       give (valueOf x)
 
     -- where the judge stands once it has read the answer
@@ -109,23 +110,23 @@ module _ {run : Run} (serving : Serving run) where
     Answered Missing t s = ⊥
 
     reads-base : (b : ℕ) (t : Tables) (s : Judge) → (t ≡ u) × Agreeing run S.none [] u s →
-        Reach s (ofRecord (Words.reserve b (u .va) 0) ∷ []) (Answered (Done b) t) ⊎ ((xs : List ℕ) (k : ℕ) → Excuses (takesRoot (Done b) xs k t .ending))
+        Reach s (ofRecord (Words.reserve b (u .fields .va) 0) ∷ []) (Answered (Done b) t) ⊎ ((xs : List ℕ) (k : ℕ) → Excuses (takesRoot (Done b) xs k t .ending))
     unfolding _>>=_
     reads-base b t s p = go (credible b u) refl
       where
-        go : (c : Bool) → credible b u ≡ c → Reach s (ofRecord (Words.reserve b (u .va) 0) ∷ []) (Answered (Done b) t) ⊎ ((xs : List ℕ) (k : ℕ) → Excuses (takesRoot (Done b) xs k t .ending))
+        go : (c : Bool) → credible b u ≡ c → Reach s (ofRecord (Words.reserve b (u .fields .va) 0) ∷ []) (Answered (Done b) t) ⊎ ((xs : List ℕ) (k : ℕ) → Excuses (takesRoot (Done b) xs k t .ending))
         go false e = inr (λ xs k. rw e refl)
         go true e =
             let g = p .1 in
             let small = kept .sound .small in
             let whole = kept .sound .va in
-            inl (reach-word Reserve b (u .va) s _ (accepts-reserve g small whole b e room (p .0, (e, agrees-rooted g small whole b e n))))
+            inl (reach-word Reserve b (u .fields .va) s _ (accepts-reserve g small whole b e room (p .0, (e, agrees-rooted g small whole b e n))))
 
     reads-answer : (x : Answer) (t : Tables) (s : Judge) → Heard x → (t ≡ u) × Agreeing run S.none [] u s →
-        Reach s (ofRecord (Words.reserve (valueOf x) (u .va) (codeOf x)) ∷ []) (Answered x t) ⊎ ((xs : List ℕ) (k : ℕ) → Excuses (takesRoot x xs k t .ending))
+        Reach s (ofRecord (Words.reserve (valueOf x) (u .fields .va) (codeOf x)) ∷ []) (Answered x t) ⊎ ((xs : List ℕ) (k : ℕ) → Excuses (takesRoot x xs k t .ending))
     reads-answer (Done b) t s y p = reads-base b t s p
     reads-answer (Failed c) t s y p =
-        inl (reach-failed Reserve 0 (u .va) c s (Answered (Failed c) t) y (agrees-inside serving (p .1)) (rw (agrees-seen serving (p .1)) p))
+        inl (reach-failed Reserve 0 (u .fields .va) c s (Answered (Failed c) t) y (agrees-inside serving (p .1)) (rw (agrees-seen serving (p .1)) p))
     reads-answer Missing t s y p = absurd y
 
     roots-answer : (x : Answer) →
@@ -138,14 +139,14 @@ module _ {run : Run} (serving : Serving run) where
         (judges-change _ (λ t s p. (rw (p .0), p .1 .1))) (λ _.
         judges-then (λ _ t s. Agreeing run S.none [] t s) (judges-change _ (λ t s p. rw (p .0) (p .1))) (λ _. judges-give b))))
     roots-answer (Failed c) =
-        judges-then (λ _ _ _. ⊥) (judges-from (λ t s p. (refl, rw (p .0) (p .1))) (judges-end (ReserveFailed (u .va) (u .page)))) (λ _. judges-never)
+        judges-then (λ _ _ _. ⊥) (judges-from (λ t s p. (refl, rw (p .0) (p .1))) (judges-end (ReserveFailed (u .fields .va) (u .fields .page)))) (λ _. judges-never)
     roots-answer Missing = judges-never
 
     reserves : Judges (λ t s. (t ≡ u) × Agreeing run S.none [] u s) (reserveRoot n) (λ _ t s. Agreeing run S.none [] t s) (Ended run)
     unfolding reserveRoot reserve
     reserves = judges-known u (λ w e. rw e (judges-unless _ Answered (λ x t s y p _. reads-answer x t s y p) roots-answer))
 
-  pub judges-reserveRoot : (lost : ℕ → ℕ) (n : ℕ) (u : Tables) (kept : Kept lost u) (most : n ≤ u .va) (size : (n ≡ 0) ⊎ Whole (u .page) n) →
+  pub judges-reserveRoot : (lost : ℕ → ℕ) (n : ℕ) (u : Tables) (kept : Kept lost u) (most : n ≤ u .fields .va) (size : (n ≡ 0) ⊎ Whole (u .fields .page) n) →
       length (u .roots) < 16 →
       Judges (λ t s. (t ≡ u) × Agreeing run S.none [] u s) (reserveRoot n) (λ b t s. Reserved lost n u b t × Agreeing run S.none [] t s)
       (Ends run lost)

@@ -1,5 +1,5 @@
 -- A text that begins with printed lines, whatever their numbers, and says only well-formed lines says these lines first: a row's fields are its word and its
--- decimals, and both have only one meaning. Assumes nothing.
+-- decimals, and both have only one meaning.
 use mathlib.Core.Path.{_≡_, refl, sym, ap, _∙_}
 use mathlib.Core.Bool.{_&&_}
 use mathlib.Core.List.{List, [], _∷_, _++_, map, append-assoc}
@@ -10,7 +10,7 @@ use borrow.Author.Tests.{ltb-true}
 use lib.Dec.{ltb}
 use Rattle.lists.specs.Walks.{joined}
 use Rattle.lists.proofs.Tests.{both}
-use Rattle.trace.specs.Form.{word, decimal, row, text, textOf, line, printed}
+use Rattle.trace.specs.Form.{word, lastKind, decimal, row, text, textOf, line, printed}
 use Rattle.trace.specs.Reads.{kind, value, isNumber, reading}
 use Rattle.trace.specs.Lines.{linesOf}
 use Rattle.trace.specs.declared.Line.{Line}
@@ -26,7 +26,7 @@ use Rattle.trace.proofs.Feeds.{NoFeed, linesOf-line, row-no-feed, linesOf-print
 kind-some : (k : ℕ) → 0 < kind (word k) → kind (word k) ≡ k
 unfolding kind
 kind-some k some =
-    elim (decLe k 16) [
+    elim (decLe k lastKind) [
       | yes h ↦ kind-word k h
       | no h ↦ let none : kind (word k) ≡ 0 = ap kind (no-word k (omega arith)) in absurd (omega arith)
     ]

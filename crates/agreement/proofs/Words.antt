@@ -1,5 +1,5 @@
 -- One record read inside a call: R0 is met, so a record of code 0 meets the rule of its word and a failed one has no effect. From that, what is to be
--- shown of each way to make a driver call. Assumes nothing.
+-- shown of each way to make a driver call.
 use mathlib.Core.Path.{_≡_, refl, sym, _∙_}
 use mathlib.Core.Logic.{_⊎_, ⊎-elim}
 use mathlib.Core.Bool.{Bool, true, false, cond, false≢true}
@@ -37,10 +37,11 @@ use Rattle.tables.specs.declared.Outcome.the-variants.{DriverFailed}
 use Rattle.trace.specs.Kinds.{ofRecord}
 use Rattle.trace.specs.declared.Line.{Line}
 use Rattle.trace.specs.declared.Reading.the-variants.{Good}
-use Rattle.judging.specs.Said.{said}
-use Rattle.judging.specs.Rules.{Judge, R0, R9asked}
-use Rattle.judging.specs.Verdict as Verdict
-use Rattle.judging.specs.declared.Said.the-variants.{Record as Records}
+use Rattle.judge_rules.specs.Sizes.{mostMapped}
+use Rattle.judge_rules.specs.Said.{said}
+use Rattle.judge_rules.specs.Rules.{Judge, R0, R9asked}
+use Rattle.judge_rules.specs.Verdict as Verdict
+use Rattle.judge_rules.specs.declared.Said.the-variants.{Record as Records}
 use Rattle.agreement.specs.Premises.{mayAnswer, reliable, mappedBy, mappedAfter}
 use Rattle.agreement.specs.Agrees.{Inside}
 use Rattle.agreement.specs.Judges.{Reach, Fair, addresses, excused, Reached, Judges}
@@ -96,10 +97,10 @@ reach-failed w a b c s R n i r = record { state = seen s; reads = rw (step-word 
 pub fair-code : (w : Word) (a b c : ℕ) (m : List ℕ) → Fair m (ofRecord (line w a b c) ∷ []) → mayAnswer w c ≡ true
 fair-code w a b c m f = sym (reliable-word w a b c) ∙ both (reliable (ofRecord (line w a b c))) true (f .driver) .0
 
-pub fair-mapped : (w : Word) (a b : ℕ) (m : List ℕ) → Fair m (ofRecord (line w a b 0) ∷ []) → length (mappedBy w a b m) ≤ 4096
+pub fair-mapped : (w : Word) (a b : ℕ) (m : List ℕ) → Fair m (ofRecord (line w a b 0) ∷ []) → length (mappedBy w a b m) ≤ mostMapped
 fair-mapped w a b m f =
-    leb-true (length (mappedBy w a b m)) 4096
-    (rw (mapped-word w a b m) at (both (leb (length (mappedAfter (ofRecord (line w a b 0)) m)) 4096) true (f .mapped) .0))
+    leb-true (length (mappedBy w a b m)) mostMapped
+    (rw (mapped-word w a b m) at (both (leb (length (mappedAfter (ofRecord (line w a b 0)) m)) mostMapped) true (f .mapped) .0))
 
 -- an answer that was lent: where it says that the driver failed, the code is not 0
 abbrev pub Heard : Answer → Type 0
@@ -176,7 +177,7 @@ abbrev pub Strict : Word → Type 0
 Strict w = (c : ℕ) → mayAnswer w c ≡ eqb c 0
 
 module _ {P Q : Tables → Judge → Type 0} {E : Outcome → Tables → Judge → Type 0} (w : Word) (a b : ℕ) (strict : Strict w)
-    (h : (t : Tables) (s : Judge) → P t s → length (mappedBy w a b (addresses (s .mapped))) ≤ 4096 → Accepts w a b s (Q t)) where
+    (h : (t : Tables) (s : Judge) → P t s → length (mappedBy w a b (addresses (s .mapped))) ≤ mostMapped → Accepts w a b s (Q t)) where
   tells : Judges P (driver (λ x. line w a b (codeOf x))) (λ x t s. Q t s × (failed x ≡ false)) E
   tells = judges-drive _ go
     where

@@ -16,9 +16,9 @@ use Rattle.tables.specs.declared.Outcome.{Outcome}
 use Rattle.tables.specs.declared.Page as Pool
 use Rattle.keeping.specs.Cover.{equal, coverFree, coverLive, coverZombies}
 use Rattle.keeping.specs.Sound.{none as nowhere, Left}
-use Rattle.judging.specs.Rules.{Reservation, Page, Live, Judge}
-use Rattle.judging.specs.Verdict.{ended}
-use Rattle.judging.specs.declared.Run.{Run}
+use Rattle.judge_rules.specs.Rules.{Reservation, Page, Live, Judge}
+use Rattle.judge_rules.specs.Verdict.{ended}
+use Rattle.judge_rules.specs.declared.Run.{Run}
 
 -- The elements of `l` are those that the elements of `m` stand for, each as often, in whatever order: every weight adds up to the same.
 pub record SameBy {A B : Type 0} (f : B → A) (l : List A) (m : List B) : Type 0 where
@@ -60,16 +60,16 @@ pub record Serving (run : Run) : Type 0 where
 -- are the live buffers that the judge knows of.
 pub record Agrees (run : Run) (new : ℕ → ℕ) (spare : List ℕ) (live : List LiveBuffer) (t : Tables) (s : Judge) : Type 0 where
   pub runs : s .run ≡ run
-  pub page : run .page ≡ t .page
-  pub va : run .va ≡ t .va
-  pub reservations : SameBy (reservation (t .va)) (s .reservations) (t .roots)
+  pub page : run .page ≡ t .fields .page
+  pub va : run .va ≡ t .fields .va
+  pub reservations : SameBy (reservation (t .fields .va)) (s .reservations) (t .roots)
   pub held : (weight : ℕ → ℕ) → sum weight (s .held) ≡ sum (λ g. weight (g .handle .0)) (t .pages) + sum weight spare
-  pub aligned : All (λ g. g .at % t .page ≡ 0) (s .mapped)
-  pub mapped : (x : ℕ) → x % t .page ≡ 0 → mappedAt (s .mapped) x ≡ coverFree (t .free) x + coverLive (t .live) x + coverZombies (t .zombies) x + new x
+  pub aligned : All (λ g. g .at % t .fields .page ≡ 0) (s .mapped)
+  pub mapped : (x : ℕ) → x % t .fields .page ≡ 0 → mappedAt (s .mapped) x ≡ coverFree (t .free) x + coverLive (t .live) x + coverZombies (t .zombies) x + new x
   pub active : All (λ g. Member (mapping g) (s .mapped)) (t .pages)
   pub owned : All (λ g. 0 < heldAt (s .held) (g .handle)) (s .mapped)
   pub buffers : SameBy buffer (s .live) live
-  pub last : s .last ≡ lastBelow (t .counter)
+  pub last : s .last ≡ lastBelow (t .fields .counter)
 
 -- Where the judge knows of the buffers in the live table.
 abbrev pub Agreeing : Run → (ℕ → ℕ) → List ℕ → Tables → Judge → Type 0

@@ -13,8 +13,8 @@ use Rattle.tables.specs.declared.Outcome.{Outcome}
 use Rattle.trace.specs.Kinds.{ofRecord}
 use Rattle.trace.specs.declared.Line.{Line}
 use Rattle.trace.specs.declared.Reading.the-variants.{Good}
-use Rattle.judging.specs.Rules.{Judge, Page}
-use Rattle.judging.specs.Verdict as Verdict
+use Rattle.judge_rules.specs.Rules.{Judge, Page}
+use Rattle.judge_rules.specs.Verdict as Verdict
 use Rattle.agreement.specs.Premises.{reliable, fewMapped}
 
 -- the judge reads one line after the other

@@ -1,4 +1,4 @@
--- What is asked of the driver, over the lines of a trace, the oldest first.
+-- docs/RULES.md 8.10: what is asked of the driver, over the lines of a trace, the oldest first.
 use mathlib.Core.Path.{_≡_}
 use mathlib.Core.Bool.{Bool, true, cond, _&&_, _||_, not}
 use mathlib.Core.List.{List, [], _∷_}
@@ -21,10 +21,11 @@ use Rattle.words.specs.declared.Word.the-variants.{
   Giveback,
 }
 use Rattle.trace.specs.declared.Line.{Line}
-use Rattle.judging.specs.Said.{said}
-use Rattle.judging.specs.Ranges.{inside}
-use Rattle.judging.specs.declared.Said.{Said}
-use Rattle.judging.specs.declared.Said.the-variants.{Record, Call, Result, Unknown}
+use Rattle.judge_rules.specs.Sizes.{mostMapped}
+use Rattle.judge_rules.specs.Said.{said}
+use Rattle.judge_rules.specs.Ranges.{inside}
+use Rattle.judge_rules.specs.declared.Said.{Said}
+use Rattle.judge_rules.specs.declared.Said.the-variants.{Record, Call, Result, Unknown}
 
 -- The driver fails only by refusing a reservation or by code 2 while creating a page. (`asked` never stops a call: any code of it will do.)
 abbrev pub mayAnswer : Word → ℕ → Bool
@@ -85,7 +86,7 @@ mappedAfter l m = mappedAfterBy (said (l .kind)) l m
 -- No more than 4,096 pages are mapped at once, where `m` are mapped before these lines.
 abbrev pub fewMapped : List ℕ → List Line → Bool
 fewMapped m [] = true
-fewMapped m (l ∷ ls) = let n = mappedAfter l m in leb (length n) 4096 && fewMapped n ls
+fewMapped m (l ∷ ls) = let n = mappedAfter l m in leb (length n) mostMapped && fewMapped n ls
 
 pub record Premises (lines : List Line) : Type 0 where
   pub driver : every reliable lines ≡ true

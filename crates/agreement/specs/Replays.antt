@@ -5,10 +5,11 @@ use Rattle.trace.specs.Lines.{linesOf}
 use Rattle.trace.specs.declared.Line.{Line}
 use Rattle.trace.specs.declared.Reading.{Reading}
 use Rattle.trace.specs.declared.Reading.the-variants.{Good, Malformed}
-use Rattle.gathering.specs.Lending.{passed}
+use Rattle.replay_answers.specs.Lending.{passed}
 use Rattle.agreement.specs.Runs.{Opening}
+use Rattle.tables.specs.Bounds.{LOG}
 
--- Its granularity is the page size, its initial stream 0; the log has room.
+-- docs/RULES.md 7.3: no override, initial stream 0; the log has room.
 abbrev pub openingBy : Line → List ℕ → Opening
 openingBy l xs =
     record {
@@ -18,7 +19,7 @@ openingBy l xs =
       initial = l .third;
       stream = 0;
       answers = xs;
-      log = 2048;
+      log = LOG;
     }
 
 -- an opening that is refused: its log is short

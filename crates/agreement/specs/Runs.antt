@@ -5,20 +5,11 @@ use Prim.Native.Nat.{ℕ}
 use Rattle.tables.specs.Outcomes.{numbers, is}
 use Rattle.tables.specs.HandsBack.{Reply}
 use Rattle.tables.specs.Open.{pageSize, openPool}
-use Rattle.tables.specs.Malloc.{malloc}
-use Rattle.tables.specs.Free.{free}
-use Rattle.tables.specs.Close.{close}
+use Rattle.tables.specs.Calls.{Call, answer}
 use Rattle.tables.specs.declared.Pool.{Pool}
-use Rattle.trace.specs.Kinds.{ofRecord, openLine, mallocLine, freeLine, closeLine}
+use Rattle.trace.specs.Kinds.{ofRecord, openLine}
 use Rattle.trace.specs.declared.Line.{Line}
-use Rattle.printing.specs.Traced.{resultOf}
-
-pub data Call : Type 0 where
-  -- bytes, stream
-  mallocs : ℕ → ℕ → Call
-  -- address
-  frees : ℕ → Call
-  closes : Call
+use Rattle.replay_lines.specs.Traced.{lineOf, resultOf}
 
 -- `log` counts the records that the log has room for.
 pub record Lent : Type 0 where
@@ -38,29 +29,18 @@ pub record Opening : Type 0 where
 abbrev pub opened : Opening → Reply
 opened o = openPool (o .granularity) (o .override) (o .va) (o .initial) (o .stream) (o .answers) (o .log)
 
-abbrev pub answered : Pool → Call → List ℕ → ℕ → Reply
-answered p (mallocs n s) xs log = malloc p n s xs log
-answered p (frees a) xs log = free p a xs log
-answered p closes xs log = close p xs log
-
--- The call's own line.
-abbrev pub lineOf : Call → Line
-lineOf (mallocs n s) = mallocLine n s
-lineOf (frees a) = freeLine a
-lineOf closes = closeLine
-
--- In a trace a call line precedes the records and a `result` line follows.
+-- docs/RULES.md 6.1: the call, its records, its result.
 abbrev pub entry : Line → Reply → List Line
 entry call r = call ∷ (map ofRecord (r .records) ++ (resultOf (numbers (r .outcome)) ∷ []))
 
--- A call answered 17 enters no trace.
+-- A call answered 17 is in no trace.
 abbrev pub traceFrom : Pool → List Lent → List Line
 traceFrom p [] = []
 traceFrom p (c ∷ cs) =
-    let r = answered p (c .call) (c .answers) (c .log) in
+    let r = answer p (c .call) (c .answers) (c .log) in
     cond (is 17 (r .outcome)) (traceFrom (r .pool) cs) (entry (lineOf (c .call)) r ++ traceFrom (r .pool) cs)
 
--- `open` page size used, va_size, initial pages.
+-- The opening, with the page size in use, and the calls.
 abbrev pub traceOf : Opening → List Lent → List Line
 traceOf o cs =
     entry (openLine (pageSize (o .granularity) (o .override)) (o .va) (o .initial)) (opened o) ++ traceFrom (opened o .pool) cs

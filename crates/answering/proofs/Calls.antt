@@ -1,13 +1,13 @@
 -- Each call answers one of its numbers, for every pool, every argument, all answers and every log: the refusals in turn, then what its steps may answer.
--- Assumes nothing.
 use mathlib.Core.Path.{_≡_, refl}
 use mathlib.Core.Bool.{Bool, true, false, cond, _||_, not}
 use mathlib.Core.List.{List}
 use mathlib.Core.Option.{Option, some, none}
-use Prim.Native.Nat.{ℕ, _+_, _%_, _^_}
+use Prim.Native.Nat.{ℕ, _+_, _%_}
 use lib.Dec.{ltb, leb, eqb}
 use Rattle.lists.specs.Tests.{first}
 use Rattle.words.specs.declared.Record.{Record}
+use Rattle.tables.specs.Bounds.{IDS, LOG, SPANS}
 use Rattle.tables.specs.Values.{closed, stopped, atEntry, noTables}
 use Rattle.tables.specs.Steps.{Ending, on, ends}
 use Rattle.tables.specs.WellFormed.{wellFormed}
@@ -16,11 +16,12 @@ use Rattle.tables.specs.Open.{pageSize, badConfiguration, openFinished, openPoo
 use Rattle.tables.specs.Malloc.{mallocBy, malloc}
 use Rattle.tables.specs.Free.{freeFound, free}
 use Rattle.tables.specs.Close.{closeSteps, closeFinished, close}
+use Rattle.tables.specs.Calls.{Call, mallocs, frees, closes, answer}
 use Rattle.tables.specs.declared.LiveBuffer.{LiveBuffer}
 use Rattle.tables.specs.declared.Pool.{Pool}
 use Rattle.tables.specs.declared.Outcome.the-variants.{PoolClosed, PoolStopped, NotWellFormed, ShortLog, IdsSpent}
 use Rattle.keeping.specs.Holds.{After}
-use Rattle.answering.specs.Answers.{openNumbers, mallocNumbers, freeNumbers, closeNumbers, among}
+use Rattle.answering.specs.Answers.{openNumbers, mallocNumbers, freeNumbers, closeNumbers, numbersOf, among}
 use Rattle.answering.proofs.Steps.{openSteps-answer, mallocSteps-answer, freeSteps-answer, closeSteps-ends}
 
 -- what holds of both ways that a test can go
@@ -36,7 +37,7 @@ pub open-answers : (granularity override va initial stream : ℕ) (xs : List ℕ
     among openNumbers (openPool granularity override va initial stream xs log .outcome) ≡ true
 unfolding openPool openFinished
 open-answers granularity override va initial stream xs log =
-    either-way (Answered openNumbers) (ltb log 2048) _ _ refl
+    either-way (Answered openNumbers) (ltb log LOG) _ _ refl
     (either-way (Answered openNumbers) (badConfiguration granularity override va initial) _ _ refl
     (openSteps-answer (λ o. among openNumbers o ≡ true) (λ o e. rw e)
     (record { reserves = λ _ _. refl; memory = λ _ _. refl; fails = λ _. refl; incredible = refl; short = refl })
@@ -46,25 +47,25 @@ open-answers granularity override va initial stream xs log =
 pub admitted-by : (K : Reply → Type 0) (p : Pool) (log : ℕ) (r : Reply) → K (refused p PoolClosed) → K (refused p PoolStopped) →
     K (refused p NotWellFormed) → K (refused p ShortLog) → K (refused p IdsSpent) → K r → K (admitted p log r)
 unfolding admitted
-admitted-by K p log r closes stops forms logs ids h =
-    either-way K (eqb (p .state) closed) _ _ closes
+admitted-by K p log r gone stops forms logs ids h =
+    either-way K (eqb (p .state) closed) _ _ gone
     (either-way K (eqb (p .state) stopped) _ _ stops
     (either-way K (not (wellFormed p)) _ _ forms
-    (either-way K (ltb log 2048) _ _ logs
-    (either-way K (leb (2 ^ 62) (p .counter)) _ _ ids h))))
+    (either-way K (ltb log LOG) _ _ logs
+    (either-way K (leb IDS (p .counter)) _ _ ids h))))
 
-pub malloc-answers : (p : Pool) (n s : ℕ) (xs : List ℕ) (log : ℕ) → among mallocNumbers (malloc p n s xs log .outcome) ≡ true
+malloc-answers : (p : Pool) (n s : ℕ) (xs : List ℕ) (log : ℕ) → among mallocNumbers (malloc p n s xs log .outcome) ≡ true
 unfolding mallocBy finished
 malloc-answers p n s xs log =
     admitted-by (Answered mallocNumbers) p log _ refl refl refl refl refl
     (either-way (Answered mallocNumbers) (eqb n 0 || not (eqb (n % p .page) 0)) _ _ refl
-    (either-way (Answered mallocNumbers) (leb 128 (p .free .count + p .live .count)) _ _ refl
+    (either-way (Answered mallocNumbers) (leb SPANS (p .free .count + p .live .count)) _ _ refl
     (mallocSteps-answer (λ o. among mallocNumbers o ≡ true)
     (record { reserves = λ _ _. refl; memory = λ _ _. refl; fails = λ _. refl; incredible = refl; short = refl })
     (record { exceeds = λ _ _. refl; pages = refl; zombies = refl; roots = refl })
     n s (λ o e. rw e) xs 0 (atEntry p))))
 
-pub free-answers : (p : Pool) (a : ℕ) (xs : List ℕ) (log : ℕ) → among freeNumbers (free p a xs log .outcome) ≡ true
+free-answers : (p : Pool) (a : ℕ) (xs : List ℕ) (log : ℕ) → among freeNumbers (free p a xs log .outcome) ≡ true
 unfolding free freeFound finished
 free-answers p a xs log = admitted-by (Answered freeNumbers) p log _ refl refl refl refl refl (found (first (λ b. eqb (b .start .0) a) (atEntry p .live)))
   where
@@ -72,16 +73,22 @@ free-answers p a xs log = admitted-by (Answered freeNumbers) p log _ refl refl r
     found none = refl
     found (some b) = freeSteps-answer (λ o. among freeNumbers o ≡ true) refl (λ _. refl) b (λ o e. rw e) xs 0 (atEntry p)
 
-pub close-answers : (p : Pool) (xs : List ℕ) (log : ℕ) → among closeNumbers (close p xs log .outcome) ≡ true
+close-answers : (p : Pool) (xs : List ℕ) (log : ℕ) → among closeNumbers (close p xs log .outcome) ≡ true
 unfolding close closeFinished
 close-answers p xs log =
     let w = closeSteps xs 0 (atEntry p) in
     either-way (Answered closeNumbers) (eqb (p .state) closed) _ _ refl
     (either-way (Answered closeNumbers) (not (wellFormed p)) _ _ refl
-    (either-way (Answered closeNumbers) (ltb log 2048) _ _ refl
+    (either-way (Answered closeNumbers) (ltb log LOG) _ _ refl
     (left (w .records) (w .ending) (closeSteps-ends (λ o. among closeNumbers o ≡ true) refl .leaves xs 0 (atEntry p) tt))))
   where
     left : (rs : List Record) (e : Ending (Unit {0})) → After (λ _ _. Unit {0}) (λ o _. among closeNumbers o ≡ true) (closeSteps xs 0 (atEntry p) .tables) e →
         among closeNumbers (closeFinished p rs e .outcome) ≡ true
     left rs (on u) h = refl
     left rs (ends o) h = h
+
+-- Every call answers one of its numbers.
+pub call-answers : (p : Pool) (c : Call) (xs : List ℕ) (log : ℕ) → among (numbersOf c) (answer p c xs log .outcome) ≡ true
+call-answers p (mallocs n s) xs log = malloc-answers p n s xs log
+call-answers p (frees a) xs log = free-answers p a xs log
+call-answers p closes xs log = close-answers p xs log

@@ -1,4 +1,4 @@
--- The triple that only says how a step may end a call: with outcomes of which `F` holds. One rule for each way that a step is made. Assumes nothing.
+-- The triple that only says how a step may end a call: with outcomes of which `F` holds. One rule for each way that a step is made.
 use mathlib.Core.Bool.{Bool, cond}
 use mathlib.Core.List.{List}
 use Prim.Native.Nat.{ℕ}

@@ -1,4 +1,4 @@
--- How each rule may end a call, walked step by step: with outcomes of which `F` holds, if it holds of those that the rule names. Assumes nothing.
+-- How each rule may end a call, walked step by step: with outcomes of which `F` holds, if it holds of those that the rule names.
 use mathlib.Core.Bool.{cond, not}
 use mathlib.Core.List.{List, [], _∷_}
 use mathlib.Core.Option.{Option, some, none}
@@ -7,7 +7,7 @@ use lib.Dec.{leb, eqb}
 use lib.ListN.{length, getD}
 use Rattle.words.specs.Answers.{codeOf, valueOf, failed}
 use Rattle.words.specs.declared.Answer.{Answer}
-use Rattle.tables.specs.Values.{zombie}
+use Rattle.tables.specs.Values.{emptyZombie}
 use Rattle.tables.specs.InsertFree.{from, withoutFree, insertFree}
 use Rattle.tables.specs.TakeRange.{credible, smallestHole, reserveRoot, takeHole, takeRange}
 use Rattle.tables.specs.NewPages.{Room, at, mapPage, unmake, newPages, rollBack, isActive, created, makePages, insertNew}
@@ -50,7 +50,7 @@ module _ (F : Outcome → Type 0) (short : F AnswersRanOut) where
   walks zero i = ends-give F tt
   walks (suc n) i =
       ends-looked F (λ t.
-      let z = getD (t .zombies) i (zombie 0 0 0) in
+      let z = getD (t .zombies) i emptyZombie in
       ends-then F (ends-isComplete F short (z .id .0)) (λ c. ends-cond F c (ends-then F (cleans i z) (λ _. walks n i)) (walks n (i + 1))))
 
   pub cleanup-ends : Ends F cleanup
@@ -84,7 +84,7 @@ module _ (F : Outcome → Type 0) (short : F AnswersRanOut) where
     insertFree-ends a n s =
         ends-looked F (λ t.
         ends-then F (ends-change F _) (λ _.
-        ends-then F (ends-must F short fails (drives-record (t .counter) s)) (λ _.
+        ends-then F (ends-must F short fails (drives-record (t .fields .counter) s)) (λ _.
         ends-then F (ends-change F _) (λ _.
         ends-then F (ends-change F _) (λ _. ends-give F _)))))
 
@@ -119,7 +119,7 @@ module _ (F : Outcome → Type 0) (short : F AnswersRanOut) where
     moves-pages (b ∷ l) a =
         ends-looked F (λ t.
         ends-then F (ends-change F _) (λ _.
-        ends-then F (maps-page a (handleAt b (t .pages))) (λ _. moves-pages l (a + t .page))))
+        ends-then F (maps-page a (handleAt b (t .pages))) (λ _. moves-pages l (a + t .fields .page))))
 
     pulls-in : (o : Room) (lacks : ℕ) (others : List FreeRegion) → Ends F (pullIn o lacks others)
     unfolding pullIn
@@ -127,7 +127,7 @@ module _ (F : Outcome → Type 0) (short : F AnswersRanOut) where
         let a = o .start + o .missing in
         ends-then F (pulls (pullOrder (o .stream) others) (o .stream) lacks) (λ zs.
         ends-looked F (λ t.
-        ends-then F (moves-pages (pagesIn (t .page) zs) a) (λ _.
+        ends-then F (moves-pages (pagesIn (t .fields .page) zs) a) (λ _.
         ends-then F (ends-must F short fails (drives-access a lacks)) (λ _. insertFree-ends a lacks (o .stream)))))
 
     fills : (o : Room) (r : Option FreeRegion) → Ends F (fill o r)
@@ -150,8 +150,8 @@ module _ (F : Outcome → Type 0) (short : F AnswersRanOut) where
       unfolding reserveRoot
       reserveRoot-ends n =
           ends-looked F (λ t.
-          ends-then F (ends-drive F short (drives-reserve (t .va))) (λ x.
-          ends-then F (ends-endIf F (failed x) (ReserveFailed (t .va) (t .page)) (reserves (t .va) (t .page))) (λ _.
+          ends-then F (ends-drive F short (drives-reserve (t .fields .va))) (λ x.
+          ends-then F (ends-endIf F (failed x) (ReserveFailed (t .fields .va) (t .fields .page)) (reserves (t .fields .va) (t .fields .page))) (λ _.
           ends-then F (ends-endIf F (not (credible (valueOf x) t)) Incredible incredible) (λ _.
           ends-then F (ends-change F _) (λ _.
           ends-then F (ends-change F _) (λ _. ends-give F (valueOf x)))))))
@@ -171,7 +171,7 @@ module _ (F : Outcome → Type 0) (short : F AnswersRanOut) where
         unfolding unmake
         unmakes g =
             ends-looked F (λ t.
-            ends-then F (ends-try F short (drives-unmap (at g) (t .page))) (λ _.
+            ends-then F (ends-try F short (drives-unmap (at g) (t .fields .page))) (λ _.
             ends-then F (ends-change F _) (λ _. ends-try F short (drives-release (g .handle .0)))))
 
         rolls-back : (o : Room) (a : ℕ) → Ends F (rollBack o a)
@@ -193,9 +193,9 @@ module _ (F : Outcome → Type 0) (short : F AnswersRanOut) where
         makes-pages zero o a = ends-give F tt
         makes-pages (suc k) o a =
             ends-looked F (λ t.
-            ends-then F (ends-drive F short (drives-create (t .page))) (λ x.
+            ends-then F (ends-drive F short (drives-create (t .fields .page))) (λ x.
             ends-then F (checks-created o a x) (λ _.
-            ends-then F (maps-page a (valueOf x)) (λ _. makes-pages k o (a + t .page)))))
+            ends-then F (maps-page a (valueOf x)) (λ _. makes-pages k o (a + t .fields .page)))))
 
         pub makeRoom-ends : (n s : ℕ) → Ends F (makeRoom n s)
         unfolding makeRoom
@@ -203,5 +203,5 @@ module _ (F : Outcome → Type 0) (short : F AnswersRanOut) where
             ends-looked F (λ t.
             ends-then F (takes-range n) (λ a.
             let o : Room = record { start = a; size = n; missing = missing n t; stream = s } in
-            ends-then F (makes-pages (o .missing / t .page) o a) (λ _.
+            ends-then F (makes-pages (o .missing / t .fields .page) o a) (λ _.
             ends-then F (inserts-new o) (fills o))))

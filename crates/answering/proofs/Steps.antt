@@ -1,11 +1,12 @@
--- What the steps of each call may answer: 0 where they go on to the end, else what their rules may end a call with. Assumes nothing.
+-- What the steps of each call may answer: 0 where they go on to the end, else what their rules may end a call with.
 use mathlib.Core.Path.{_≡_}
 use mathlib.Core.Bool.{true, _&&_, _||_}
 use mathlib.Core.List.{List}
 use mathlib.Core.Option.{Option, some, none}
-use Prim.Native.Nat.{ℕ, _+_, _*_, _/_}
+use Prim.Native.Nat.{ℕ, _+_, _-_, _*_, _/_}
 use lib.Dec.{ltb, leb, eqb}
 use lib.ListN.{length}
+use Rattle.tables.specs.Bounds.{HOLES, PAGES, ROOTS, ZOMBIES}
 use Rattle.tables.specs.Values.{Tables}
 use Rattle.tables.specs.Steps.{Ending, on, ends, Step}
 use Rattle.tables.specs.Outcomes.{is}
@@ -84,7 +85,7 @@ module _ (F : Outcome → Type 0) where
       ends-looked F (λ t.
       ends-then F
       (ends-cond F (eqb initial 0) (ends-give F tt)
-      (ends-then F (makeRoom-ends F (m .short) (m .fails) (m .reserves) (m .incredible) (m .memory) (initial * t .page) stream) (λ _.
+      (ends-then F (makeRoom-ends F (m .short) (m .fails) (m .reserves) (m .incredible) (m .memory) (initial * t .fields .page) stream) (λ _.
       ends-must F (m .short) (m .fails) (drives-sync stream)))) (λ _.
       ends-give F _)))
 
@@ -98,10 +99,10 @@ module _ (F : Outcome → Type 0) where
     refuses =
         ends-looked F (λ t.
         let pulled = length (t .zombies) + length (t .free) in
-        ends-then F (ends-endIf F (ltb (t .va) n) (RequestedExceedsVa n (t .va)) (r .exceeds n (t .va))) (λ _.
-        ends-then F (ends-endIf F (ltb 256 (length (t .pages) + missing n t / t .page)) PagesFull (r .pages)) (λ _.
-        ends-then F (ends-endIf F (ltb 128 pulled || ltb 511 (pulled + length (t .holes))) ZombiesFull (r .zombies)) (λ _.
-        ends-endIf F (noHole (smallestHole n (t .holes)) && leb 16 (length (t .roots))) RootsFull (r .roots)))))
+        ends-then F (ends-endIf F (ltb (t .fields .va) n) (RequestedExceedsVa n (t .fields .va)) (r .exceeds n (t .fields .va))) (λ _.
+        ends-then F (ends-endIf F (ltb PAGES (length (t .pages) + missing n t / t .fields .page)) PagesFull (r .pages)) (λ _.
+        ends-then F (ends-endIf F (ltb ZOMBIES pulled || ltb (HOLES - 1) (pulled + length (t .holes))) ZombiesFull (r .zombies)) (λ _.
+        ends-endIf F (noHole (smallestHole n (t .holes)) && leb ROOTS (length (t .roots))) RootsFull (r .roots)))))
 
     or-room : (o : Option FreeRegion) → Ends F (orRoom n s o)
     unfolding orRoom
@@ -144,5 +145,5 @@ module _ (F : Outcome → Type 0) where
       ends-then F (ends-each F (λ z. ends-try F short (drives-unmap (z .start .0) (z .size))) (t .zombies)) (λ _.
       ends-then F
       (ends-each F
-      (λ g. ends-then F (ends-try F short (drives-unmap (at g) (t .page))) (λ _. ends-try F short (drives-release (g .handle .0)))) (t .pages)) (λ _.
-      ends-each F (λ a. ends-try F short (drives-giveback (a .0) (t .va))) (t .roots)))))
+      (λ g. ends-then F (ends-try F short (drives-unmap (at g) (t .fields .page))) (λ _. ends-try F short (drives-release (g .handle .0)))) (t .pages)) (λ _.
+      ends-each F (λ a. ends-try F short (drives-giveback (a .0) (t .fields .va))) (t .roots)))))

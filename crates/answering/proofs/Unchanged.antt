@@ -1,5 +1,5 @@
 -- 1 to 7, 16 and 19 are answered before a call's first step, with the pool as it came and no record: the steps of a call answer none of them. 17 hands
--- back the pool that the call was handed. Assumes nothing.
+-- back the pool that the call was handed.
 use mathlib.Core.Path.{_≡_, refl, sym, _∙_}
 use mathlib.Core.Bool.{false, false≢true, _||_, not}
 use mathlib.Core.List.{List}
@@ -9,6 +9,7 @@ use borrow.Author.Tests.{eqb-true}
 use lib.Dec.{ltb, leb, eqb}
 use Rattle.lists.specs.Tests.{first}
 use Rattle.words.specs.declared.Record.{Record}
+use Rattle.tables.specs.Bounds.{LOG, SPANS}
 use Rattle.tables.specs.Values.{Tables, closed, atEntry, noTables, closedPool}
 use Rattle.tables.specs.Steps.{Ending, on, ends, Went}
 use Rattle.tables.specs.Outcomes.{numbers}
@@ -18,6 +19,7 @@ use Rattle.tables.specs.Open.{pageSize, badConfiguration, openFinished, openPoo
 use Rattle.tables.specs.Malloc.{mallocBy, malloc}
 use Rattle.tables.specs.Free.{freeFound, free}
 use Rattle.tables.specs.Close.{closeSteps, closeFinished, close}
+use Rattle.tables.specs.Calls.{Call, mallocs, frees, closes, answer}
 use Rattle.tables.specs.declared.LiveBuffer.{LiveBuffer}
 use Rattle.tables.specs.declared.Pool.{Pool}
 use Rattle.tables.specs.declared.Outcome.{Outcome}
@@ -53,21 +55,21 @@ unfolding openPool openFinished
 open-unchanged granularity override va initial stream xs log =
     let t = noTables (pageSize granularity override) va in
     let h = openSteps-answer Late late-done late-met initial stream xs 0 t in
-    either-way (Unchanged closedPool) (ltb log 2048) _ _ (unchanged-refused closedPool _)
+    either-way (Unchanged closedPool) (ltb log LOG) _ _ (unchanged-refused closedPool _)
     (either-way (Unchanged closedPool) (badConfiguration granularity override va initial) _ _ (unchanged-refused closedPool _)
     (record { refused = λ e. absurd (false≢true (sym h ∙ e)); short = λ e. rw e }))
 
-pub malloc-unchanged : (p : Pool) (n s : ℕ) (xs : List ℕ) (log : ℕ) → Unchanged p (malloc p n s xs log)
+malloc-unchanged : (p : Pool) (n s : ℕ) (xs : List ℕ) (log : ℕ) → Unchanged p (malloc p n s xs log)
 unfolding mallocBy
 malloc-unchanged p n s xs log =
     let same = unchanged-refused p in
     admitted-by (Unchanged p) p log _ (same _) (same _) (same _) (same _) (same _)
     (either-way (Unchanged p) (eqb n 0 || not (eqb (n % p .page) 0)) _ _ (same _)
-    (either-way (Unchanged p) (leb 128 (p .free .count + p .live .count)) _ _ (same _)
+    (either-way (Unchanged p) (leb SPANS (p .free .count + p .live .count)) _ _ (same _)
     (unchanged-finished p _
     (mallocSteps-answer Late late-met (record { exceeds = λ _ _. refl; pages = refl; zombies = refl; roots = refl }) n s late-done xs 0 (atEntry p)))))
 
-pub free-unchanged : (p : Pool) (a : ℕ) (xs : List ℕ) (log : ℕ) → Unchanged p (free p a xs log)
+free-unchanged : (p : Pool) (a : ℕ) (xs : List ℕ) (log : ℕ) → Unchanged p (free p a xs log)
 unfolding free freeFound
 free-unchanged p a xs log =
     let same = unchanged-refused p in
@@ -77,16 +79,22 @@ free-unchanged p a xs log =
     found none = unchanged-refused p _
     found (some b) = unchanged-finished p _ (freeSteps-answer Late refl (λ _. refl) b late-done xs 0 (atEntry p))
 
-pub close-unchanged : (p : Pool) (xs : List ℕ) (log : ℕ) → Unchanged p (close p xs log)
+close-unchanged : (p : Pool) (xs : List ℕ) (log : ℕ) → Unchanged p (close p xs log)
 unfolding close closeFinished
 close-unchanged p xs log =
     let w = closeSteps xs 0 (atEntry p) in
     let same = unchanged-refused p in
     either-way (Unchanged p) (eqb (p .state) closed) _ _ (same _)
     (either-way (Unchanged p) (not (wellFormed p)) _ _ (same _)
-    (either-way (Unchanged p) (ltb log 2048) _ _ (same _)
+    (either-way (Unchanged p) (ltb log LOG) _ _ (same _)
     (left (w .records) (w .tables) (w .ending) (closeSteps-ends Late refl .leaves xs 0 (atEntry p) tt))))
   where
     left : (rs : List Record) (t : Tables) (e : Ending (Unit {0})) → After (λ _ _. Unit {0}) (λ o _. Late o) t e → Unchanged p (closeFinished p rs e)
     left rs t (on u) h = record { refused = λ e. absurd (false≢true e); short = λ e. absurd (false≢true e) }
     left rs t (ends o) h = record { refused = λ e. absurd (false≢true (sym h ∙ e)); short = λ _. refl }
+
+-- What a refusal, and 17, leave of the pool: of every call.
+pub call-unchanged : (p : Pool) (c : Call) (xs : List ℕ) (log : ℕ) → Unchanged p (answer p c xs log)
+call-unchanged p (mallocs n s) xs log = malloc-unchanged p n s xs log
+call-unchanged p (frees a) xs log = free-unchanged p a xs log
+call-unchanged p closes xs log = close-unchanged p xs log

@@ -1,4 +1,4 @@
--- Free, once it is admitted: what the search for the buffer says of the rule, and what the steps leave in the pool that was read. Assumes nothing.
+-- Free, once it is admitted: what the search for the buffer says of the rule, and what the steps leave in the pool that was read.
 use mathlib.Core.Path.{_≡_, ap, sym, _∙_}
 use mathlib.Core.List.{List}
 use Prim.Native.Nat.{ℕ, _<_}
@@ -6,7 +6,7 @@ use native.Mathlib.Omega.{arith}
 use lib.Dec.{eqb}
 use lib.ListN.{length, getD}
 use Rattle.lists.specs.Tests.{first}
-use Rattle.tables.specs.Values.{address, buffer, opened, liveOf, tablesOf, atEntry, poolOf}
+use Rattle.tables.specs.Values.{address, opened, liveOf, tablesOf, atEntry, poolOf, emptyBuffer}
 use Rattle.tables.specs.Choices.{chosen, Placed}
 use Rattle.tables.specs.Kept.{KeptPool}
 use Rattle.tables.specs.HandsBack.{refused, finished}
@@ -17,11 +17,11 @@ use Rattle.tables.specs.declared.Choice.the-variants.{At, Nothing}
 use Rattle.tables.specs.declared.Outcome.the-variants.{InvalidPointer}
 use Rattle.tables.proofs.Packs.{live-count}
 use Rattle.keeping.proofs.WellFormedEnters.{enters}
-use Rattle.pools.specs.Entering.{Admitted}
+use Rattle.pool_entry.specs.Promises.{Admitted}
 use Rattle.driving.specs.Pools.{CallRan}
-use Rattle.free_steps.specs.Freeing.{Freeable, FreeRan, holding, steppedIn}
-use Rattle.free_steps.specs.declared.Freed.{Freed}
-use Rattle.calls.specs.Replies.{Replies}
+use Rattle.step_free.specs.Promises.{Freeable, FreeRan, holding, steppedIn}
+use Rattle.step_free.specs.declared.Freed.{Freed}
+use Rattle.calls.specs.Promises.{Replies}
 use Rattle.calls.specs.Leaving.{leaving}
 use Rattle.calls.specs.declared.Called.{Called}
 use Rattle.calls.proofs.Left.{replies-left}
@@ -44,16 +44,16 @@ module _ (p : Pool) (room : ℕ) (a : Admitted p room) (q : Pool) (e : q ≡ poo
       }
 
   -- the steps, over the pool that was read
-  module _ {i : ℕ} {xs l : List ℕ} {f : Freed} {l′ : List ℕ} (s : FreeRan i (q .live) (q .free) (q .counter) xs l f l′) where
-    steps-ran : CallRan (freeSteps (getD (liveOf (q .live)) i (buffer 0 0 0))) 1 xs q l (steppedIn q f) l′
+  module _ {i : ℕ} {xs l : List ℕ} {f : Freed} {l′ : List ℕ} (s : FreeRan i (q .live) (q .free) (q .counter) xs 0 l f l′) where
+    steps-ran : CallRan (freeSteps (getD (liveOf (q .live)) i emptyBuffer)) 1 xs q 0 l (steppedIn q f) l′
     steps-ran = s .ran q (read-kept p q opened e (a .form))
 
     pub kept-left : KeptPool (holding (f .live) (f .free) (f .counter) q)
     kept-left = steps-ran .walked .kept
 
   module _ (start : ℕ) (xs : List ℕ) (c : Choice)
-      (found : chosen (buffer 0 0 0) (liveOf (q .live)) c ≡ first (λ b. eqb (b .start .0) start) (liveOf (q .live))) where
-    searched : free p start xs room ≡ freeFound p start xs (chosen (buffer 0 0 0) (liveOf (q .live)) c)
+      (found : chosen emptyBuffer (liveOf (q .live)) c ≡ first (λ b. eqb (b .start .0) start) (liveOf (q .live))) where
+    searched : free p start xs room ≡ freeFound p start xs (chosen emptyBuffer (liveOf (q .live)) c)
     unfolding free tablesOf
     searched =
         a .passes _
@@ -63,13 +63,13 @@ module _ (p : Pool) (room : ℕ) (a : Admitted p room) (q : Pool) (e : q ≡ poo
     -- 16
     pub free-none : c ≡ Nothing → free p start xs room ≡ refused p (InvalidPointer (address start))
     unfolding freeFound chosen
-    free-none h = searched ∙ ap (λ z. freeFound p start xs (chosen (buffer 0 0 0) (liveOf (q .live)) z)) h
+    free-none h = searched ∙ ap (λ z. freeFound p start xs (chosen emptyBuffer (liveOf (q .live)) z)) h
 
     free-some : (i : ℕ) → c ≡ At i →
-        free p start xs room ≡ finished p (freeSteps (getD (liveOf (q .live)) i (buffer 0 0 0)) xs 0 (atEntry p))
+        free p start xs room ≡ finished p (freeSteps (getD (liveOf (q .live)) i emptyBuffer) xs 0 (atEntry p))
     unfolding freeFound chosen
-    free-some i h = searched ∙ ap (λ z. freeFound p start xs (chosen (buffer 0 0 0) (liveOf (q .live)) z)) h
+    free-some i h = searched ∙ ap (λ z. freeFound p start xs (chosen emptyBuffer (liveOf (q .live)) z)) h
 
-    pub free-left : (i : ℕ) → c ≡ At i → {l : List ℕ} {f : Freed} {l′ : List ℕ} → FreeRan i (q .live) (q .free) (q .counter) xs l f l′ → {r : Called} →
+    pub free-left : (i : ℕ) → c ≡ At i → {l : List ℕ} {f : Freed} {l′ : List ℕ} → FreeRan i (q .live) (q .free) (q .counter) xs 0 l f l′ → {r : Called} →
         r ≡ leaving (record { value = p }) (steppedIn q f) → Replies (free p start xs room) r l l′
     free-left i h s w = replies-left (record { value = p }) (atEntry p) (read-tables p q opened e) (steps-ran s) (free-some i h) w

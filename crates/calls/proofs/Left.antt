@@ -1,4 +1,4 @@
--- What the steps of a call leave is what its rule hands back. Assumes nothing.
+-- What the steps of a call leave is what its rule hands back.
 use mathlib.Core.Path.{_≡_, refl, ap, sym, _∙_}
 use mathlib.Core.Bool.{Bool, true, false, cond}
 use mathlib.Core.List.{List}
@@ -6,6 +6,7 @@ use Prim.Native.Nat.{ℕ, _-_, _≤_, _/_}
 use native.Mathlib.Omega.{arith}
 use lib.ListN.{length}
 use Rattle.words.proofs.Log.{written-none}
+use Rattle.tables.specs.Bounds.{LOG}
 use Rattle.tables.specs.Values.{Tables, closed, tablesOf, poolOf}
 use Rattle.tables.specs.Kept.{KeptPool}
 use Rattle.tables.specs.Steps.{Step}
@@ -14,14 +15,15 @@ use Rattle.tables.specs.HandsBack.{Reply, refused, finished}
 use Rattle.tables.specs.declared.Pool as tables
 use Rattle.tables.specs.declared.Outcome.{Outcome}
 use Rattle.tables.proofs.Packs.{pool-whole}
+use Rattle.driving.specs.Ran.{RoomFor}
 use Rattle.driving.specs.Pools.{CallRan}
 use Rattle.driving.specs.declared.Stepped.{Stepped}
 use Rattle.driving.proofs.Ran.{log-is}
-use Rattle.calls.specs.Replies.{Replies, called}
+use Rattle.calls.specs.Promises.{Replies, called}
 use Rattle.calls.specs.Leaving.{stateAfter, leaving, leavingShort}
 use Rattle.calls.specs.declared.Pool.{Pool}
 use Rattle.calls.specs.declared.Called.{Called}
-use Rattle.calls.proofs.States.{ran-out, is-left}
+use Rattle.calls.proofs.States.{is-short, is-left}
 
 -- a pool with another state
 abbrev withState : ℕ → tables.Pool → tables.Pool
@@ -49,8 +51,8 @@ module _ (p : Pool) (s : Stepped) where
   pub left-short : is 17 (s .outcome) ≡ true → leaving p s ≡ record { pool = p; outcome = s .outcome; records = s .made; taken = s .made - 1 }
   left-short e = rw e
 
-  pub left-ran-out : stateAfter (s .outcome) ≡ closed → leaving p s ≡ leavingShort p (s .made)
-  left-ran-out e = rw (ran-out (s .outcome) e)
+  pub left-ran-out : stateAfter (s .outcome) ≡ closed → leaving p s ≡ leavingShort p (s .outcome) (s .made)
+  left-ran-out e = rw (is-short (s .outcome) e)
 
   -- any other outcome leaves the tables of the steps, with its state
   pub left-by : (n : ℕ) → KeptPool (s .pool) → n ≡ stateAfter (s .outcome) → (n ≡ closed → ⊥) →
@@ -74,7 +76,7 @@ replies-none {l = l} w p o e h = rw e record { answer = h; cells = sym (written-
 
 -- the steps went from the tables that were read
 module _ {m : Step Outcome} {bound : ℕ} {xs : List ℕ} {q : tables.Pool} {l : List ℕ} {s : Stepped} {l′ : List ℕ} (p : Pool) (t : Tables)
-    (same : tablesOf q ≡ t) (c : CallRan m bound xs q l s l′) where
+    (same : tablesOf q ≡ t) (c : CallRan m bound xs q 0 l s l′) where
   left-is : leaving p s ≡ called (finished (p .value) (m xs 0 t))
   unfolding finished
   left-is =
@@ -86,5 +88,5 @@ module _ {m : Step Outcome} {bound : ℕ} {xs : List ℕ} {q : tables.Pool} {l :
   unfolding finished
   replies-left h e = rw h record { answer = e ∙ left-is; cells = rw (← same) (log-is (c .walked .ran)) }
 
-pub long : (l : List ℕ) → 2048 ≤ length l / 4 → 8192 ≤ length l
+pub long : (l : List ℕ) → LOG ≤ length l / 4 → RoomFor LOG l
 long l h = omega arith

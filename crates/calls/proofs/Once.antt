@@ -1,10 +1,10 @@
--- A second answer that meets a promise is the first: the outcome, the pool, the counts and every log cell. Assumes nothing.
+-- A second answer that meets a promise is the first: the outcome, the pool, the counts and every log cell.
 use mathlib.Core.Path.{_≡_, sym, _∙_}
 use mathlib.Core.List.{List}
 use Prim.Native.Nat.{ℕ}
-use Rattle.words.specs.declared.Address.{Address}
 use Rattle.tables.specs.HandsBack.{Reply}
-use Rattle.calls.specs.Replies.{Replies, Opens, Mallocs, Frees, Closes}
+use Rattle.tables.specs.Calls.{Call}
+use Rattle.calls.specs.Promises.{Replies, Opens, Answers}
 use Rattle.calls.specs.declared.Pool.{Pool}
 use Rattle.calls.specs.declared.Called.{Called}
 
@@ -16,12 +16,5 @@ module _ (log : List ℕ) (r r′ : Called) (m m′ : List ℕ) where
       Opens granularity override va initial stream xs log r′ m′ → (r ≡ r′) × (m ≡ m′)
   open-once granularity override va initial stream xs = replies-once _
 
-  pub malloc-once : (p : Pool) (bytes stream : ℕ) (xs : List ℕ) → Mallocs p bytes stream xs log r m → Mallocs p bytes stream xs log r′ m′ →
-      (r ≡ r′) × (m ≡ m′)
-  malloc-once p bytes stream xs = replies-once _
-
-  pub free-once : (p : Pool) (a : Address) (xs : List ℕ) → Frees p a xs log r m → Frees p a xs log r′ m′ → (r ≡ r′) × (m ≡ m′)
-  free-once p a xs = replies-once _
-
-  pub close-once : (p : Pool) (xs : List ℕ) → Closes p xs log r m → Closes p xs log r′ m′ → (r ≡ r′) × (m ≡ m′)
-  close-once p xs = replies-once _
+  pub call-once : (p : Pool) (c : Call) (xs : List ℕ) → Answers p c xs log r m → Answers p c xs log r′ m′ → (r ≡ r′) × (m ≡ m′)
+  call-once p c xs = replies-once _

@@ -1,4 +1,4 @@
--- Open: refused, or what its steps need and what is handed back of them. Assumes nothing.
+-- Open: refused, or what its steps need and what is handed back of them.
 use mathlib.Core.Path.{_≡_, _∙_}
 use mathlib.Core.Bool.{true, false, cond}
 use mathlib.Core.List.{List}
@@ -10,6 +10,7 @@ use borrow.Author.Tests.{eq-eqb, ne-eqb, ltb-false}
 use lib.Dec.{ltb}
 use lib.ListN.{length}
 use Rattle.lists.proofs.Tests.{cases-lt}
+use Rattle.tables.specs.Bounds.{LOG, PAGES}
 use Rattle.tables.specs.Values.{Tables, opened, stopped, tablesOf, poolOf, noTables, closedPool}
 use Rattle.tables.specs.Kept.{KeptPool}
 use Rattle.tables.specs.Steps.{Step}
@@ -28,7 +29,7 @@ use Rattle.driving.specs.Pools.{CallRan}
 use Rattle.driving.specs.declared.Ended.the-variants.{On, Ends}
 use Rattle.driving.specs.declared.Stepped.{Stepped}
 use Rattle.driving.proofs.Ran.{log-is}
-use Rattle.calls.specs.Replies.{Replies, called}
+use Rattle.calls.specs.Promises.{Replies, called}
 use Rattle.calls.specs.Leaving.{leavingOpened}
 use Rattle.calls.specs.Refusing.{openRefused}
 use Rattle.calls.specs.declared.Called.{Called}
@@ -39,26 +40,26 @@ module _ (granularity override va initial stream : ℕ) (xs : List ℕ) (room : 
   pub open-refused : (o : Outcome) → openRefused granularity override va initial room ≡ Ends o → (q : tables.Pool) → q ≡ closedPool →
       openPool granularity override va initial stream xs room ≡ refused q o
   unfolding openPool
-  open-refused o e q h = rw h (tests-stop closedPool ShortLog BadConfiguration _ (ltb room 2048) (badConfiguration granularity override va initial) o e)
+  open-refused o e q h = rw h (tests-stop closedPool ShortLog BadConfiguration _ (ltb room LOG) (badConfiguration granularity override va initial) o e)
 
   module _ (e : openRefused granularity override va initial room ≡ On) (page : ℕ) (used : page ≡ pageSize granularity override) where
-    passed : (w : Reply) → (ltb room 2048 ≡ false) × ((badConfiguration granularity override va initial ≡ false) ×
-        (cond (ltb room 2048) (refused closedPool ShortLog) (cond (badConfiguration granularity override va initial) (refused closedPool BadConfiguration) w) ≡ w))
-    passed w = tests-pass closedPool ShortLog BadConfiguration w (ltb room 2048) (badConfiguration granularity override va initial) e
+    passed : (w : Reply) → (ltb room LOG ≡ false) × ((badConfiguration granularity override va initial ≡ false) ×
+        (cond (ltb room LOG) (refused closedPool ShortLog) (cond (badConfiguration granularity override va initial) (refused closedPool BadConfiguration) w) ≡ w))
+    passed w = tests-pass closedPool ShortLog BadConfiguration w (ltb room LOG) (badConfiguration granularity override va initial) e
 
     pub open-goes : openPool granularity override va initial stream xs room ≡
         openFinished (openSteps initial stream xs 0 (noTables page va))
     unfolding openPool
     open-goes = rw used (passed _ .1 .1)
 
-    pub open-room : 2048 ≤ room
-    open-room = ltb-false room 2048 (passed (refused closedPool ShortLog) .0)
+    pub open-room : LOG ≤ room
+    open-room = ltb-false room LOG (passed (refused closedPool ShortLog) .0)
 
     pub open-configured : Configured page va initial
     open-configured = rw used (configured granularity override va initial (passed (refused closedPool ShortLog) .1 .0))
 
 -- the size of initial pages is a number that the machine has
-pub initial-fits : (page va initial : ℕ) → allowed page va ≡ true → initial ≤ 256 → initial * page < 2 ^ 64
+pub initial-fits : (page va initial : ℕ) → allowed page va ≡ true → initial ≤ PAGES → initial * page < 2 ^ 64
 initial-fits page va initial e h =
     let w = allowed-of page va e in
     let whole = w .1 .0 in
@@ -98,7 +99,7 @@ module _ (s : Stepped) where
 
 -- the steps went from no tables
 module _ {m : Step Outcome} {bound : ℕ} {xs : List ℕ} {q : tables.Pool} {l : List ℕ} {s : Stepped} {l′ : List ℕ} (t : Tables) (same : tablesOf q ≡ t)
-    (c : CallRan m bound xs q l s l′) where
+    (c : CallRan m bound xs q 0 l s l′) where
   opened-is : leavingOpened s ≡ called (openFinished (m xs 0 t))
   unfolding openFinished
   opened-is =

@@ -1,4 +1,4 @@
--- The pool that a call read: its tables are kept, and those at entry. Assumes nothing.
+-- The pool that a call read: its tables are kept, and those at entry.
 use mathlib.Core.Path.{_≡_, ap, sym, _∙_}
 use mathlib.Core.Bool.{true}
 use Prim.Native.Nat.{ℕ}
@@ -10,7 +10,7 @@ use Rattle.tables.specs.declared.Pool.{Pool}
 use Rattle.tables.proofs.Packs.{tables-pool, pool-whole}
 use Rattle.keeping.proofs.WellFormedEnters.{ceilings-read}
 use Rattle.driving.proofs.Pools.{pool-kept}
-use Rattle.pools.specs.Entering.{Stands}
+use Rattle.pool_entry.specs.Promises.{Stands}
 
 -- so that it may be read
 pub ceilings-of : (p : Pool) → wellFormed p ≡ true → ceilingsKept p ≡ true

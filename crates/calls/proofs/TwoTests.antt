@@ -1,4 +1,4 @@
--- Two tests in order, as the code makes them and as a rule has them. Assumes nothing.
+-- Two tests in order, as the code makes them and as a rule has them.
 use mathlib.Core.Path.{_≡_, refl, ap, sym}
 use mathlib.Core.Bool.{Bool, true, false, cond}
 use Rattle.tables.specs.HandsBack.{Reply, refused}

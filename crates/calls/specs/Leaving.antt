@@ -1,4 +1,4 @@
--- What is left of the pool, in the words of the code: by a state, or as at entry.
+-- docs/RULES.md 4.5, 4.7: what is left of the pool, in the words of the code: by a state, or as at entry.
 use mathlib.Core.Path.{_≡_}
 use mathlib.Core.Bool.{cond, _||_}
 use Prim.Native.Nat.{ℕ, _-_}
@@ -7,11 +7,11 @@ use Rattle.tables.specs.Outcomes.{is}
 use Rattle.tables.specs.HandsBack.{poolAfter, refused}
 use Rattle.tables.specs.Open.{poolOpened}
 use Rattle.tables.specs.declared.Outcome.{Outcome}
-use Rattle.tables.specs.declared.Outcome.the-variants.{Closed, AnswersRanOut}
+use Rattle.tables.specs.declared.Outcome.the-variants.{Closed}
 use Rattle.driving.specs.declared.Ended.{Ended}
 use Rattle.driving.specs.declared.Ended.the-variants.{Ends}
 use Rattle.driving.specs.declared.Stepped.{Stepped}
-use Rattle.calls.specs.Replies.{called}
+use Rattle.calls.specs.Promises.{called}
 use Rattle.calls.specs.declared.Pool.{Pool}
 use Rattle.calls.specs.declared.Called.{Called}
 
@@ -48,8 +48,8 @@ leavingOpened s =
     }
 
 -- 17: the pool as at entry; the last record has no answer.
-abbrev pub leavingShort : Pool → ℕ → Called
-leavingShort p k = record { pool = p; outcome = AnswersRanOut; records = k; taken = k - 1 }
+abbrev pub leavingShort : Pool → Outcome → ℕ → Called
+leavingShort p o k = record { pool = p; outcome = o; records = k; taken = k - 1 }
 
 -- `f` lines of a close failed.
 abbrev pub leavingClosed : ℕ → ℕ → Called

@@ -1,3 +1,3 @@
-pub mod Replies
+pub mod Promises
 pub mod Leaving
 pub mod Refusing

@@ -1,7 +1,9 @@
--- What is tested once a call is admitted, in the page's order.
+-- docs/RULES.md 4.2: what is tested at entry beside 1 to 5.
 use mathlib.Core.Bool.{Bool, cond, _||_, not}
 use Prim.Native.Nat.{ℕ, _%_}
-use lib.Dec.{ltb, leb, eqb}
+use lib.Dec.{leb, eqb}
+use Rattle.tables.specs.Bounds.{SPANS}
+use Rattle.tables.specs.HandsBack.{shortLog}
 use Rattle.tables.specs.Open.{badConfiguration}
 use Rattle.tables.specs.declared.Outcome.{Outcome}
 use Rattle.tables.specs.declared.Outcome.the-variants.{BadSize, SpansFull, ShortLog, BadConfiguration}
@@ -15,8 +17,8 @@ firstOf a x b y = cond a (Ends x) (cond b (Ends y) On)
 -- 4, then 19.
 abbrev pub openRefused : ℕ → ℕ → ℕ → ℕ → ℕ → Ended
 openRefused granularity override va initial room =
-    firstOf (ltb room 2048) ShortLog (badConfiguration granularity override va initial) BadConfiguration
+    firstOf (shortLog room) ShortLog (badConfiguration granularity override va initial) BadConfiguration
 
 -- 6, then 7.
 abbrev pub sizeRefused : ℕ → ℕ → ℕ → Ended
-sizeRefused page spans n = firstOf (eqb n 0 || not (eqb (n % page) 0)) (BadSize n) (leb 128 spans) SpansFull
+sizeRefused page spans n = firstOf (eqb n 0 || not (eqb (n % page) 0)) (BadSize n) (leb SPANS spans) SpansFull

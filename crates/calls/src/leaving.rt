@@ -3,7 +3,6 @@ use super::Called;
 use super::Pool;
 use driving::Ended;
 use driving::Stepped;
-use open_steps::closed_pool;
 use tables::Outcome;
 ghost use mathlib.Core.Path.{_≡_};
 ghost use Prim.Native.Nat.{_-_};
@@ -14,29 +13,36 @@ ghost use Rattle.calls.specs.Leaving.{stateAfter, openedAfter, Refuses, 
 pub fn state_after(outcome: Outcome) -> u64
     ensures { λ r. ⌜ r ≡ stateAfter outcome ⌝ }
 {
-    match outcome {
-        Outcome::AnswersRanOut => 0,
-        Outcome::DriverFailed(_) => 2,
-        Outcome::Incredible => 2,
-        _ => 1,
+    let numbers = outcome.numbers();
+    let number = numbers.number;
+    if number == 17 {
+        return 0;
     }
+    if number == 14 {
+        return 2;
+    }
+    if number == 15 {
+        return 2;
+    }
+    1
 }
 
 // The state that an outcome of open leaves: 1 for success, 2 else; 0 stands for a closed pool, which is 17's.
 fn opened_after(outcome: Outcome) -> u64
     ensures { λ r. ⌜ r ≡ openedAfter outcome ⌝ }
 {
-    match outcome {
-        Outcome::AnswersRanOut => 0,
-        Outcome::Opened(_, _) => 1,
-        Outcome::Allocated(_, _) => 1,
-        Outcome::Freed(_, _) => 1,
-        Outcome::Closed(_) => 1,
-        _ => 2,
+    let numbers = outcome.numbers();
+    let number = numbers.number;
+    if number == 17 {
+        return 0;
     }
+    if number == 0 {
+        return 1;
+    }
+    2
 }
 
-// 1 to 7, 16 and 19 change nothing and log nothing.
+// A refusal at entry: the pool as it came, and no record.
 pub fn refuse(pool: Pool, ended: Ended) -> Called
     ensures { λ r. ⌜ Refuses pool ended r ⌝ }
 {
@@ -66,7 +72,7 @@ fn all_but_one(made: usize) -> usize
     made - 1
 }
 
-// 14 and 15 leave the pool stopped, 17 as at entry.
+// The pool is stopped by 14 and 15; 17 hands back the one that came.
 pub fn leave(pool: Pool, stepped: Stepped) -> Called
     requires { ⌜ KeptPool (stepped .pool) ⌝ }
     ensures { λ r. ⌜ r ≡ leaving pool stepped ⌝ }
@@ -102,7 +108,7 @@ pub fn leave_opened(stepped: Stepped) -> Called
     let made = stepped.made;
     let state = opened_after(outcome);
     if state == 0 {
-        let value = closed_pool();
+        let value = tables::Pool::closed();
         let taken = all_but_one(made);
         return Called {
             pool: Pool { value },
@@ -113,7 +119,7 @@ pub fn leave_opened(stepped: Stepped) -> Called
     }
     let mut value = stepped.pool;
     if value.roots.count == 0 {
-        let empty = closed_pool();
+        let empty = tables::Pool::closed();
         return Called {
             pool: Pool { value: empty },
             outcome,
@@ -130,24 +136,24 @@ pub fn leave_opened(stepped: Stepped) -> Called
     }
 }
 
-// A close that ends in 17 leaves the pool as at entry.
-pub fn leave_short(pool: Pool, made: usize) -> Called
-    ensures { λ r. ⌜ r ≡ leavingShort pool made ⌝ }
+// 17 in a close hands back the pool that came.
+pub fn leave_short(pool: Pool, outcome: Outcome, made: usize) -> Called
+    ensures { λ r. ⌜ r ≡ leavingShort pool outcome made ⌝ }
 {
     let taken = all_but_one(made);
     Called {
         pool,
-        outcome: Outcome::AnswersRanOut,
+        outcome,
         records: made,
         taken,
     }
 }
 
-// Success gives the number of failed lines, and a closed pool.
+// A close that is done: its failures are counted, and the pool is closed.
 pub fn leave_closed(failed: usize, made: usize) -> Called
     ensures { λ r. ⌜ r ≡ leavingClosed failed made ⌝ }
 {
-    let value = closed_pool();
+    let value = tables::Pool::closed();
     let failures = failed as u64;
     Called {
         pool: Pool { value },

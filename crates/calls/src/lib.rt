@@ -5,17 +5,19 @@ mod leaving;
 mod refusing;
 mod unready;
 
-ghost use Rattle.calls.specs.Replies.{Opens, Mallocs, Frees, Closes};
-use closing::close_steps;
+ghost use mathlib.Core.Path.{_≡_};
+ghost use mathlib.Core.List.{[], _∷_};
+ghost use Rattle.tables.specs.Bounds.{PAGES, SPANS, ZOMBIES, HOLES, ROOTS, VA, END, IDS, LOG};
+ghost use Rattle.calls.specs.Promises.{Opens, Mallocs, Frees, Closes};
 use driving::Ended;
-use entries::buffers::find_buffer;
-use forms::is_sound;
-use free_steps::free_steps;
-use malloc_steps::malloc_steps;
-use open_steps::closed_pool;
-use open_steps::open_steps;
-use pools::is_open;
-use pools::stands;
+use plain_tables::buffers::find_buffer;
+use pool_entry::is_open;
+use pool_entry::stands;
+use pool_soundness::is_sound;
+use step_close::close_steps;
+use step_free::free_steps;
+use step_malloc::malloc_steps;
+use step_open::open_steps;
 use tables::Choice;
 use tables::Outcome;
 use words::Address;
@@ -36,18 +38,42 @@ pub struct Called {
 
 impl Pool {
     // The ceilings: active pages; free regions and live buffers together; zombies; holes and zombies together; roots.
-    pub const PAGES: usize = 256;
+    pub const PAGES: usize = tables::Pool::PAGES;
 
-    pub const SPANS: usize = 128;
+    pub const SPANS: usize = tables::Pool::SPANS;
 
-    pub const ZOMBIES: usize = 128;
+    pub const ZOMBIES: usize = tables::Pool::ZOMBIES;
 
-    pub const HOLES: usize = 512;
+    pub const HOLES: usize = tables::Pool::HOLES;
 
-    pub const ROOTS: usize = 16;
+    pub const ROOTS: usize = tables::Pool::ROOTS;
+
+    // The largest va_size, where the last address may end, and where ids end.
+    pub const VA: u64 = tables::Pool::VA;
+
+    pub const END: u64 = tables::Pool::END;
+
+    pub const IDS: u64 = tables::Pool::IDS;
 
     // Records that a log must have room for.
-    pub const LOG: usize = 2048;
+    pub const LOG: usize = tables::Pool::LOG;
+
+    // The ceilings by their names in the rules: another number above is refused here. Nothing calls it.
+    fn ceilings() -> [u64; 9]
+        ensures { λ r. ⌜ r ≡ PAGES ∷ SPANS ∷ ZOMBIES ∷ HOLES ∷ ROOTS ∷ VA ∷ END ∷ IDS ∷ LOG ∷ [] ⌝ }
+    {
+        [
+            Self::PAGES as u64,
+            Self::SPANS as u64,
+            Self::ZOMBIES as u64,
+            Self::HOLES as u64,
+            Self::ROOTS as u64,
+            Self::VA,
+            Self::END,
+            Self::IDS,
+            Self::LOG as u64,
+        ]
+    }
 
     // Reserves one root and makes the initial pages; `override_size` 0 stands for the granularity.
     pub fn open(
@@ -59,7 +85,8 @@ impl Pool {
         answers: &[u64],
         log: &mut [u64],
     ) -> Called
-        ensures { λ r. ⌜ Opens granularity «override_size» «va_size» «initial_pages» «initial_stream» (now (answers .entry)) (now (log .entry)) r (now (log .exit)) ⌝ }
+        ensures { λ r. ⌜ Opens granularity «override_size» «va_size» «initial_pages» «initial_stream»
+            (now (answers .entry)) (now (log .entry)) r (now (log .exit)) ⌝ }
     {
         let refused = refusing::open_refused(
             granularity,
@@ -69,7 +96,7 @@ impl Pool {
             log.len() / 4,
         );
         let Ended::On = refused else {
-            let value = closed_pool();
+            let value = tables::Pool::closed();
             return leaving::refuse(Pool { value }, refused);
         };
         let page = refusing::page_size(granularity, override_size);
@@ -77,9 +104,10 @@ impl Pool {
         leaving::leave_opened(stepped)
     }
 
-    // Cleanup, fit, otherwise room is made, and the prefix handed over.
+    // Cleanup, fit, room where nothing fits, and the first bytes of the region handed over.
     pub fn malloc(self, bytes: u64, stream: u64, answers: &[u64], log: &mut [u64]) -> Called
-        ensures { λ r. ⌜ Mallocs self bytes stream (now (answers .entry)) (now (log .entry)) r (now (log .exit)) ⌝ }
+        ensures { λ r. ⌜ Mallocs self bytes stream
+            (now (answers .entry)) (now (log .entry)) r (now (log .exit)) ⌝ }
     {
         if is_open(self.value.state, self.value.counter, log.len() / 4) {
             if stands(self.value) {
@@ -109,11 +137,11 @@ impl Pool {
                     let Choice::At(at) = choice else {
                         return leaving::refuse(self, Ended::Ends(Outcome::InvalidPointer(address)));
                     };
-                    let freed = free_steps(q.live, q.free, q.counter, at, answers, log);
+                    let freed = free_steps(q.live, q.free, q.counter, at, answers, log, 0);
                     let outcome = freed.outcome;
                     let state = leaving::state_after(outcome);
                     if state == 0 {
-                        return leaving::leave_short(self, freed.made);
+                        return leaving::leave_short(self, outcome, freed.made);
                     }
                     let live = freed.live;
                     let free = freed.free;
@@ -133,7 +161,7 @@ impl Pool {
         unready::free(self, address, answers, log)
     }
 
-    // Sync, unmap zombies, unmap and release pages, give back roots: a failing line doesn't end a close.
+    // Sync, zombies, pages, roots: all that the pool holds goes back to the driver, and no failure ends it.
     pub fn close(self, answers: &[u64], log: &mut [u64]) -> Called
         ensures { λ r. ⌜ Closes self (now (answers .entry)) (now (log .entry)) r (now (log .exit)) ⌝ }
     {
@@ -143,7 +171,7 @@ impl Pool {
                     let closing = close_steps(self.value, answers, log);
                     let ended = closing.ended;
                     let Ended::On = ended else {
-                        return leaving::leave_short(self, closing.made);
+                        return leaving::leave_short(self, Outcome::AnswersRanOut, closing.made);
                     };
                     return leaving::leave_closed(closing.failed, closing.made);
                 }

@@ -1,13 +1,15 @@
 // What malloc and open test before their steps.
+use super::Pool;
 use driving::Ended;
-use forms::is_allowed;
+use pool_entry::log_is_short;
+use pool_soundness::is_allowed;
 use tables::Outcome;
 ghost use mathlib.Core.Path.{_≡_};
 ghost use Prim.Native.Nat.{_<_};
 ghost use Rattle.tables.specs.Open.{pageSize, badConfiguration};
 ghost use Rattle.calls.specs.Refusing.{sizeRefused, openRefused};
 
-// 6: size 0 or no page multiple. 7: 128 spans at entry.
+// 6 for a size that is not whole, 7 where no span is to spare.
 pub fn size_refused(page: u64, spans: usize, bytes: u64) -> Ended
     requires { ⌜ 0 < page ⌝ }
     ensures { λ r. ⌜ r ≡ sizeRefused page spans bytes ⌝ }
@@ -18,13 +20,13 @@ pub fn size_refused(page: u64, spans: usize, bytes: u64) -> Ended
     if bytes % page != 0 {
         return Ended::Ends(Outcome::BadSize(bytes));
     }
-    if spans >= 128 {
+    if spans >= Pool::SPANS {
         return Ended::Ends(Outcome::SpansFull);
     }
     Ended::On
 }
 
-// Page size is the override, or the granularity where the override is 0.
+// Override 0 stands for the granularity.
 pub fn page_size(granularity: u64, override_size: u64) -> u64
     ensures { λ r. ⌜ r ≡ pageSize granularity «override_size» ⌝ }
 {
@@ -34,7 +36,7 @@ pub fn page_size(granularity: u64, override_size: u64) -> u64
     override_size
 }
 
-// 19. Initial pages are tested against 256 first: then their size is a number of 64 bits.
+// 19. Initial pages are tested against the ceiling first: then their size is a number of 64 bits.
 fn is_bad(granularity: u64, override_size: u64, va: u64, initial: u64) -> bool
     ensures { λ r. ⌜ r ≡ badConfiguration granularity «override_size» va initial ⌝ }
 {
@@ -48,13 +50,13 @@ fn is_bad(granularity: u64, override_size: u64, va: u64, initial: u64) -> bool
     if !is_allowed(page, va) {
         return true;
     }
-    if initial > 256 {
+    if initial > Pool::PAGES as u64 {
         return true;
     }
     initial * page > va
 }
 
-// Open checks 4, then 19. `room` counts the records that the log has room for.
+// 4, and then 19. `room` counts the records that the log has room for.
 pub fn open_refused(
     granularity: u64,
     override_size: u64,
@@ -64,7 +66,7 @@ pub fn open_refused(
 ) -> Ended
     ensures { λ r. ⌜ r ≡ openRefused granularity «override_size» va initial room ⌝ }
 {
-    if room < 2048 {
+    if log_is_short(room) {
         return Ended::Ends(Outcome::ShortLog);
     }
     if is_bad(granularity, override_size, va, initial) {

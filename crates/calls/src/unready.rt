@@ -1,5 +1,5 @@
 // Calls on a pool that is not ready to be read as it is: it is refused, or its tables are put in order first.
-ghost use Rattle.calls.specs.Replies.{Mallocs, Frees, Closes};
+ghost use Rattle.calls.specs.Promises.{Mallocs, Frees, Closes};
 use super::Called;
 use super::Pool;
 use crate::leaving::leave;
@@ -7,22 +7,23 @@ use crate::leaving::leave_closed;
 use crate::leaving::leave_short;
 use crate::leaving::refuse;
 use crate::refusing::size_refused;
-use closing::close_steps;
 use driving::Ended;
 use driving::Stepped;
-use entries::buffers::find_buffer;
-use free_steps::free_steps;
-use malloc_steps::malloc_steps;
-use pools::enter;
-use pools::enter_close;
-use pools::in_order;
+use plain_tables::buffers::find_buffer;
+use pool_entry::enter;
+use pool_entry::enter_close;
+use pool_entry::in_order;
+use step_close::close_steps;
+use step_free::free_steps;
+use step_malloc::malloc_steps;
 use tables::Choice;
 use tables::Outcome;
 use words::Address;
 
 // Refused, or malloc over the pool put in order.
 pub fn malloc(pool: Pool, bytes: u64, stream: u64, answers: &[u64], log: &mut [u64]) -> Called
-    ensures { λ r. ⌜ Mallocs pool bytes stream (now (answers .entry)) (now (log .entry)) r (now (log .exit)) ⌝ }
+    ensures { λ r. ⌜ Mallocs pool bytes stream
+        (now (answers .entry)) (now (log .entry)) r (now (log .exit)) ⌝ }
 {
     let p = pool.value;
     let admission = enter(p, log.len() / 4);
@@ -52,7 +53,7 @@ pub fn free(pool: Pool, address: Address, answers: &[u64], log: &mut [u64]) -> C
     let Choice::At(at) = choice else {
         return refuse(pool, Ended::Ends(Outcome::InvalidPointer(address)));
     };
-    let freed = free_steps(read.live, read.free, read.counter, at, answers, log);
+    let freed = free_steps(read.live, read.free, read.counter, at, answers, log, 0);
     let live = freed.live;
     let free = freed.free;
     let outcome = freed.outcome;
@@ -83,7 +84,7 @@ pub fn close(pool: Pool, answers: &[u64], log: &mut [u64]) -> Called
     let closing = close_steps(read, answers, log);
     let ended = closing.ended;
     let Ended::On = ended else {
-        return leave_short(pool, closing.made);
+        return leave_short(pool, Outcome::AnswersRanOut, closing.made);
     };
     leave_closed(closing.failed, closing.made)
 }

@@ -1,4 +1,4 @@
--- Laws of how a part of a call ended. Assumes nothing.
+-- Laws of how a part of a call ended.
 use mathlib.Core.Path.{_≡_}
 use mathlib.Core.List.{List}
 use Prim.Native.Nat.{ℕ}

@@ -1,4 +1,4 @@
--- What the rules keep, the code keeps: a triple over a step holds of what code that walks it leaves. Assumes nothing.
+-- What the rules keep, the code keeps: a triple over a step holds of what code that walks it leaves.
 use mathlib.Core.List.{List}
 use Prim.Native.Nat.{ℕ}
 use Rattle.tables.specs.Values.{Tables}

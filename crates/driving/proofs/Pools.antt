@@ -1,4 +1,4 @@
--- Laws of pools whose tables are kept, and of calls on them. Assumes nothing.
+-- Laws of pools whose tables are kept, and of calls on them.
 use mathlib.Core.Path.{_≡_, refl}
 use mathlib.Core.List.{List}
 use Prim.Native.Nat.{ℕ}
@@ -29,6 +29,6 @@ pool-kept state t c =
     }
 
 -- the steps ended before their last, and so did the call
-pub call-ended : {m : Step Outcome} {bound k : ℕ} {xs l j : List ℕ} {p q : Pool} {d : Ended} {o : Outcome} → d ≡ Ends o →
-    PoolRan m bound xs p 0 l (ends o) q k j → CallRan m bound xs p l (steppedAt q d k) j
+pub call-ended : {m : Step Outcome} {bound k n : ℕ} {xs l j : List ℕ} {p q : Pool} {d : Ended} {o : Outcome} → d ≡ Ends o →
+    PoolRan m bound xs p k l (ends o) q n j → CallRan m bound xs p k l (steppedAt q d n) j
 call-ended {o = o} e w = rw e (record { ending = ends o; outcome = refl; walked = w })

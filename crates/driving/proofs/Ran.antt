@@ -1,4 +1,4 @@
--- The laws of `Ran`: one for each primitive step, and the two of `_>>=_`. Assumes nothing.
+-- The laws of `Ran`: one for each primitive step, and the two of `_>>=_`.
 use mathlib.Core.Path.{_≡_, refl, ap, sym, _∙_}
 use mathlib.Core.Bool.{Bool, true, false, cond}
 use mathlib.Core.List.{List, [], _∷_, _++_}

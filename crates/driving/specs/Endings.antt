@@ -1,7 +1,7 @@
 -- How what the code hands back is read.
 use mathlib.Core.Bool.{Bool}
 use Prim.Native.Nat.{ℕ}
-use Rattle.tables.specs.Values.{region}
+use Rattle.tables.specs.Values.{region, emptyRegion}
 use Rattle.tables.specs.Steps.{Ending, on, ends}
 use Rattle.tables.specs.declared.Pool.{Pool}
 use Rattle.tables.specs.declared.Outcome.the-variants.{AnswersRanOut}
@@ -28,7 +28,7 @@ askedEnding Unasked = ends AnswersRanOut
 
 -- an end before there is a region
 abbrev pub endedAt : Pool → Ended → ℕ → Roomed
-endedAt p e k = record { pool = p; region = region 0 0 0 0; ended = e; made = k }
+endedAt p e k = record { pool = p; region = emptyRegion; ended = e; made = k }
 
 -- an end before the last step; nothing calls it where the steps went on
 abbrev pub steppedAt : Pool → Ended → ℕ → Stepped

@@ -1,3 +1,4 @@
 pub mod Ran
 pub mod Endings
 pub mod Pools
+pub mod Promises

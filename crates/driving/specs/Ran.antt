@@ -1,7 +1,7 @@
 -- What code that walks a step leaves: how it ended, the tables, the log and the number of driver calls made so far.
 use mathlib.Core.Path.{_≡_}
 use mathlib.Core.List.{List}
-use Prim.Native.Nat.{ℕ, _+_}
+use Prim.Native.Nat.{ℕ, _+_, _*_, _≤_}
 use lib.ListN.{length}
 use Rattle.words.specs.Log.{written}
 use Rattle.words.specs.declared.Record.{Record}
@@ -27,3 +27,7 @@ pub record Ran {A : Type 0} (m : Step A) (xs : List ℕ) (s : Point) (e : Ending
 -- A driver call: it leaves the tables as they are, whatever they are, and one record.
 abbrev pub Drove : {A : Type 0} → Step A → List ℕ → ℕ → List ℕ → Ending A → List ℕ → Type 0
 Drove m xs k l e l′ = (t : Tables) → Ran m xs (point k t l) e (point (k + 1) t l′)
+
+-- The log has room for `n` records.
+abbrev pub RoomFor : ℕ → List ℕ → Type 0
+RoomFor n l = 4 * n ≤ length l

@@ -1,17 +1,15 @@
 // Driver calls: each takes the next lent answer and leaves its record in the log, after `made` others. `answers` and `log` are those of the whole call.
 ghost use mathlib.Core.Bool.{cond};
 ghost use mathlib.Core.Path.{_≡_};
-ghost use Prim.Native.Nat.{_+_, _*_, _≤_};
-ghost use lib.ListN.{length};
-ghost use Rattle.words.specs.Words.{line};
-ghost use Rattle.words.specs.Answers.{codeOf, valueOf, complete};
-ghost use Rattle.tables.specs.Driver.{heard, driver, must, try, isComplete, reserve as reserveStep, create as createStep, ask as askStep};
-ghost use Rattle.driving.specs.Ran.{Drove};
+ghost use Prim.Native.Nat.{_+_};
+ghost use Rattle.words.specs.Answers.{complete};
+ghost use Rattle.tables.specs.Driver.{heard, must, try, isComplete, reserve as reserveStep, create as createStep, ask as askStep};
+ghost use Rattle.driving.specs.Ran.{Drove, RoomFor};
+ghost use Rattle.driving.specs.Promises.{telling, hearing};
 ghost use Rattle.driving.specs.Endings.{ending, askedEnding, endedAt, steppedAt};
 use tables::FreeRegion;
 use tables::Outcome;
 use tables::Pool;
-use words::Address;
 use words::Answer;
 use words::EventId;
 use words::Record;
@@ -63,12 +61,7 @@ pub fn ended_at(pool: Pool, ended: Ended, made: usize) -> Roomed
 {
     Roomed {
         pool,
-        region: FreeRegion {
-            start: Address(0),
-            size: 0,
-            stream: 0,
-            id: EventId(0),
-        },
+        region: FreeRegion::EMPTY,
         ended,
         made,
     }
@@ -88,8 +81,9 @@ pub fn tell(
     first: u64,
     second: u64,
 ) -> Answer
-    requires { ⌜ 4 * (made + 1) ≤ length (now log) ⌝ }
-    ensures { λ r. ⌜ Drove (driver (λ x. line word first second (codeOf x))) (now (answers .entry)) made (now (log .entry)) (heard r) (now (log .exit)) ⌝ }
+    requires { ⌜ RoomFor (made + 1) (now log) ⌝ }
+    ensures { λ r. ⌜ Drove (telling word first second)
+        (now (answers .entry)) made (now (log .entry)) (heard r) (now (log .exit)) ⌝ }
 {
     let answer = answer_after(answers, made);
     let kind = word.number();
@@ -106,8 +100,9 @@ pub fn tell(
 
 // A driver call whose first field is the answer's value.
 fn hear(answers: &[u64], log: &mut [u64], made: usize, word: Word, second: u64) -> Answer
-    requires { ⌜ 4 * (made + 1) ≤ length (now log) ⌝ }
-    ensures { λ r. ⌜ Drove (driver (λ x. line word (valueOf x) second (codeOf x))) (now (answers .entry)) made (now (log .entry)) (heard r) (now (log .exit)) ⌝ }
+    requires { ⌜ RoomFor (made + 1) (now log) ⌝ }
+    ensures { λ r. ⌜ Drove (hearing word second)
+        (now (answers .entry)) made (now (log .entry)) (heard r) (now (log .exit)) ⌝ }
 {
     let answer = answer_after(answers, made);
     let kind = word.number();
@@ -125,16 +120,18 @@ fn hear(answers: &[u64], log: &mut [u64], made: usize, word: Word, second: u64) 
 
 // A base for a new root.
 pub fn reserve(answers: &[u64], log: &mut [u64], made: usize, va: u64) -> Answer
-    requires { ⌜ 4 * (made + 1) ≤ length (now log) ⌝ }
-    ensures { λ r. ⌜ Drove (reserveStep va) (now (answers .entry)) made (now (log .entry)) (heard r) (now (log .exit)) ⌝ }
+    requires { ⌜ RoomFor (made + 1) (now log) ⌝ }
+    ensures { λ r. ⌜ Drove (reserveStep va)
+        (now (answers .entry)) made (now (log .entry)) (heard r) (now (log .exit)) ⌝ }
 {
     hear(answers, log, made, Word::Reserve, va)
 }
 
 // A new page handle.
 pub fn create(answers: &[u64], log: &mut [u64], made: usize, page: u64) -> Answer
-    requires { ⌜ 4 * (made + 1) ≤ length (now log) ⌝ }
-    ensures { λ r. ⌜ Drove (createStep page) (now (answers .entry)) made (now (log .entry)) (heard r) (now (log .exit)) ⌝ }
+    requires { ⌜ RoomFor (made + 1) (now log) ⌝ }
+    ensures { λ r. ⌜ Drove (createStep page)
+        (now (answers .entry)) made (now (log .entry)) (heard r) (now (log .exit)) ⌝ }
 {
     hear(answers, log, made, Word::Create, page)
 }
@@ -150,8 +147,9 @@ fn completion(answer: Answer) -> u64
 }
 
 fn ask(answers: &[u64], log: &mut [u64], made: usize, id: EventId) -> Answer
-    requires { ⌜ 4 * (made + 1) ≤ length (now log) ⌝ }
-    ensures { λ r. ⌜ Drove (askStep (id .0)) (now (answers .entry)) made (now (log .entry)) (heard r) (now (log .exit)) ⌝ }
+    requires { ⌜ RoomFor (made + 1) (now log) ⌝ }
+    ensures { λ r. ⌜ Drove (askStep (id .0))
+        (now (answers .entry)) made (now (log .entry)) (heard r) (now (log .exit)) ⌝ }
 {
     let answer = answer_after(answers, made);
     let kind = Word::Asked.number();
@@ -169,8 +167,9 @@ fn ask(answers: &[u64], log: &mut [u64], made: usize, id: EventId) -> Answer
 
 // Whether an event is complete. It never stops a call, unless no answer is left.
 pub fn is_complete(answers: &[u64], log: &mut [u64], made: usize, id: EventId) -> Asked
-    requires { ⌜ 4 * (made + 1) ≤ length (now log) ⌝ }
-    ensures { λ r. ⌜ Drove (isComplete (id .0)) (now (answers .entry)) made (now (log .entry)) (askedEnding r) (now (log .exit)) ⌝ }
+    requires { ⌜ RoomFor (made + 1) (now log) ⌝ }
+    ensures { λ r. ⌜ Drove (isComplete (id .0))
+        (now (answers .entry)) made (now (log .entry)) (askedEnding r) (now (log .exit)) ⌝ }
 {
     let answer = ask(answers, log, made, id);
     match answer {
@@ -189,8 +188,9 @@ pub fn must_tell(
     first: u64,
     second: u64,
 ) -> Ended
-    requires { ⌜ 4 * (made + 1) ≤ length (now log) ⌝ }
-    ensures { λ r. ⌜ Drove (must (driver (λ x. line word first second (codeOf x)))) (now (answers .entry)) made (now (log .entry)) (ending r) (now (log .exit)) ⌝ }
+    requires { ⌜ RoomFor (made + 1) (now log) ⌝ }
+    ensures { λ r. ⌜ Drove (must (telling word first second))
+        (now (answers .entry)) made (now (log .entry)) (ending r) (now (log .exit)) ⌝ }
 {
     let answer = tell(answers, log, made, word, first, second);
     match answer {
@@ -209,8 +209,9 @@ pub fn try_tell(
     first: u64,
     second: u64,
 ) -> Ended
-    requires { ⌜ 4 * (made + 1) ≤ length (now log) ⌝ }
-    ensures { λ r. ⌜ Drove (try (driver (λ x. line word first second (codeOf x)))) (now (answers .entry)) made (now (log .entry)) (ending r) (now (log .exit)) ⌝ }
+    requires { ⌜ RoomFor (made + 1) (now log) ⌝ }
+    ensures { λ r. ⌜ Drove (try (telling word first second))
+        (now (answers .entry)) made (now (log .entry)) (ending r) (now (log .exit)) ⌝ }
 {
     let answer = tell(answers, log, made, word, first, second);
     match answer {

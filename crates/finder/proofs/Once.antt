@@ -1,9 +1,9 @@
--- A second answer that meets a promise is the first: the pool, the numbers, the counts and every log cell. Assumes nothing.
+-- A second answer that meets a promise is the first: the pool, the numbers, the counts and every log cell.
 use mathlib.Core.Path.{_≡_, sym, _∙_}
 use mathlib.Core.List.{List}
 use Prim.Native.Nat.{ℕ}
 use Rattle.tables.specs.HandsBack as rule
-use Rattle.finder.specs.Tells.{Tells}
+use Rattle.finder.specs.Promises.{Tells}
 use Rattle.finder.specs.declared.Reply.{Reply}
 
 -- the promise of each function is `Tells` of its rule

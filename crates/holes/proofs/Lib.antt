@@ -1,8 +1,7 @@
-pub mod Store
+pub mod StoredCell
 pub mod Replaced
 pub mod Cell
-pub mod Insert
-pub mod Joins
-pub mod Full
-pub mod Cut
-pub mod Ordered
+pub mod InsertAtPlace
+pub mod JoinedRange
+pub mod FullTable
+pub mod CutAtPlace

@@ -2,5 +2,5 @@
 use libc::STDIN_FILENO;
 
 fn main() {
-    judge_pump::pump(STDIN_FILENO);
+    judge_stream::pump(STDIN_FILENO);
 }

@@ -1,4 +1,3 @@
-pub mod Readings
-pub mod Ends
+pub mod LineByLine
+pub mod StartAndEnd
 pub mod Chunks
-pub mod Starts

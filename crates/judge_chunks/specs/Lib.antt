@@ -1,1 +1,1 @@
-pub mod Judgement
+pub mod Promises

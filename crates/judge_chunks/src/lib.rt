@@ -1,19 +1,19 @@
 // The judge of a trace whose bytes come in chunks: whatever the cuts, its verdict is that of the definitions on the lines of the whole.
 ghost use mathlib.Core.Path.{_≡_};
-ghost use mathlib.Core.List.{List, []};
-ghost use Prim.Native.Nat.{ℕ, _+_, _≤_, _<_, _^_};
+ghost use mathlib.Core.List.{[]};
+ghost use Prim.Native.Nat.{_+_, _<_, _^_};
 ghost use lib.ListN.{length};
-ghost use Rattle.judge_steps.specs.State.{Ready};
+ghost use Rattle.judge_steps.specs.State.{Lent, lent};
+ghost use Rattle.judge_steps.specs.Promises.{found, left};
 ghost use Rattle.judge_steps.specs.declared.Outcome.the-variants.{On};
-ghost use Rattle.judge_chunks.specs.Judgement.{atStart, verdictOn, verdictAfter, Begun, Judged, Onward, Feeds};
+ghost use Rattle.judge_chunks.specs.Promises.{atStart, verdictOn, verdictAfter, TakesMore, TakesLine, Judged, Onward, Feeds, Lasts};
+use judge_rules::Asked;
+use judge_rules::Call;
+use judge_rules::Run;
+use judge_rules::Verdict;
 use judge_steps::Outcome;
 use judge_steps::State;
 use judge_steps::step;
-use judging::Asked;
-use judging::Call;
-use judging::Run;
-use judging::Verdict;
-use trace::Line;
 use trace::Partial;
 use trace::Reading;
 
@@ -67,8 +67,9 @@ fn on_reading(
     live: &mut [u64],
     reading: Reading,
 ) -> Progress
-    requires { ⌜ Ready (p .state) (now reservations) (now held) (now mapped) (now live) × (p .lines + 1 < 2 ^ 64) ⌝ }
-    ensures { λ r. ⌜ Judged r p reading (now (reservations .entry)) (now (held .entry)) (now (mapped .entry)) (now (live .entry)) (now (reservations .exit)) (now (held .exit)) (now (mapped .exit)) (now (live .exit)) ⌝ }
+    requires { ⌜ TakesLine p (lent (now reservations) (now held) (now mapped) (now live)) ⌝ }
+    ensures { λ r. ⌜ Judged r p reading
+        (found reservations held mapped live) (left reservations held mapped live) ⌝ }
 {
     let lines = p.lines + 1;
     let partial = Partial::fresh();
@@ -91,7 +92,7 @@ fn on_reading(
                 lines,
                 state,
                 partial,
-                outcome: Outcome::Broken(0),
+                outcome: Outcome::Broken(Verdict::R0),
             }
         }
     }
@@ -113,8 +114,10 @@ fn feed_line(
     chunk: &[u8],
     at: usize,
 ) -> Fed
-    requires { ⌜ (p .outcome ≡ On) × (Ready (p .state) (now reservations) (now held) (now mapped) (now live) × ((at < length (now chunk)) × (p .lines + 1 < 2 ^ 64))) ⌝ }
-    ensures { λ r. ⌜ Onward r p at (now (chunk .entry)) (now (reservations .entry)) (now (held .entry)) (now (mapped .entry)) (now (live .entry)) (now (reservations .exit)) (now (held .exit)) (now (mapped .exit)) (now (live .exit)) ⌝ }
+    requires { ⌜ (p .outcome ≡ On) × (at < length (now chunk)) ⌝ }
+    requires { ⌜ TakesLine p (lent (now reservations) (now held) (now mapped) (now live)) ⌝ }
+    ensures { λ r. ⌜ Onward r p at (now (chunk .entry))
+        (found reservations held mapped live) (left reservations held mapped live) ⌝ }
 {
     let partial = p.partial;
     let reach = partial.scan(chunk, at);
@@ -147,8 +150,9 @@ pub fn feed(
     live: &mut [u64],
     chunk: &[u8],
 ) -> Progress
-    requires { ⌜ Begun p (now reservations) (now held) (now mapped) (now live) × (p .lines + length (now chunk) < 2 ^ 64) ⌝ }
-    ensures { λ r. ⌜ Feeds r p (now (chunk .entry)) (now (reservations .entry)) (now (held .entry)) (now (mapped .entry)) (now (live .entry)) (now (reservations .exit)) (now (held .exit)) (now (mapped .exit)) (now (live .exit)) ⌝ }
+    requires { ⌜ TakesMore (length (now chunk)) p (lent (now reservations) (now held) (now mapped) (now live)) ⌝ }
+    ensures { λ r. ⌜ Feeds r p (now (chunk .entry))
+        (found reservations held mapped live) (left reservations held mapped live) ⌝ }
 {
     let mut q = p;
     let mut at: usize = 0;
@@ -172,8 +176,8 @@ fn last_line(
     mapped: &mut [u64],
     live: &mut [u64],
 ) -> Progress
-    requires { ⌜ Begun p (now reservations) (now held) (now mapped) (now live) × (p .lines + 1 < 2 ^ 64) ⌝ }
-    ensures { λ r. ⌜ (r .lines ≤ p .lines + 1) × (verdictOn r (now (reservations .exit)) (now (held .exit)) (now (mapped .exit)) (now (live .exit)) [] ≡ verdictAfter p (now (reservations .entry)) (now (held .entry)) (now (mapped .entry)) (now (live .entry)) []) ⌝ }
+    requires { ⌜ TakesMore 1 p (lent (now reservations) (now held) (now mapped) (now live)) ⌝ }
+    ensures { λ r. ⌜ Lasts r p (found reservations held mapped live) (left reservations held mapped live) ⌝ }
 {
     let outcome = p.outcome;
     let Outcome::On = outcome else {
@@ -189,7 +193,7 @@ fn last_line(
 // The verdict on the lines so far, where none follows.
 fn settle(p: Progress) -> Verdict
     requires { ⌜ p .lines + 1 < 2 ^ 64 ⌝ }
-    ensures { λ r. ⌜ ((a h m l : List ℕ) → r ≡ verdictOn p a h m l []) ⌝ }
+    ensures { λ r. ⌜ ((t : Lent) → r ≡ verdictOn p t []) ⌝ }
 {
     let outcome = p.outcome;
     match outcome {
@@ -197,10 +201,10 @@ fn settle(p: Progress) -> Verdict
             let s = p.state;
             let run = s.run;
             if !run.opened {
-                return Verdict::Rejected(p.lines + 1, 0);
+                return Verdict::Rejected(p.lines + 1, Verdict::R0);
             }
             if run.waiting {
-                return Verdict::Rejected(p.lines + 1, 0);
+                return Verdict::Rejected(p.lines + 1, Verdict::R0);
             }
             Verdict::Accepted
         }
@@ -217,8 +221,8 @@ pub fn finish(
     mapped: &mut [u64],
     live: &mut [u64],
 ) -> Verdict
-    requires { ⌜ Begun p (now reservations) (now held) (now mapped) (now live) × (p .lines + 2 < 2 ^ 64) ⌝ }
-    ensures { λ r. ⌜ r ≡ verdictAfter p (now (reservations .entry)) (now (held .entry)) (now (mapped .entry)) (now (live .entry)) [] ⌝ }
+    requires { ⌜ TakesMore 2 p (lent (now reservations) (now held) (now mapped) (now live)) ⌝ }
+    ensures { λ r. ⌜ r ≡ verdictAfter p (found reservations held mapped live) [] ⌝ }
 {
     let q = last_line(p, reservations, held, mapped, live);
     settle(q)

@@ -1,4 +1,4 @@
-pub mod Views
-pub mod Ruling
-pub mod Steps
-pub mod Running
+pub mod TestsOfRows
+pub mod RulesByTests
+pub mod StepsByRule
+pub mod StepsByKind

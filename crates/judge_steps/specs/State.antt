@@ -1,18 +1,16 @@
 -- The judge's state as the code holds it: a few numbers, and four lent tables. Each table is its list, the newest first.
-use mathlib.Core.Path.{_≡_}
-use mathlib.Core.Bool.{Bool, true, cond, not, _&&_}
+use mathlib.Core.Bool.{Bool, true, cond, not, _&&_, _||_}
 use mathlib.Core.List.{List, map}
 use mathlib.Core.Option.{none, some}
-use Prim.Native.Nat.{ℕ, _*_, _≤_, _<_}
+use Prim.Native.Nat.{ℕ}
 use lib.Dec.{eqb}
-use lib.ListN.{length}
 use Rattle.trace.specs.declared.Line.{Line}
-use Rattle.judging.specs.Said.{ifOpen}
-use Rattle.judging.specs.Rules.{Judge, Reservation, Page, Live}
-use Rattle.judging.specs.Verdict.{Step, on, broken, beyond}
-use Rattle.judging.specs.declared.Call.{Call}
-use Rattle.judging.specs.declared.Call.the-variants.{Open, Malloc, Free, Close}
-use Rattle.judging.specs.declared.Run.{Run}
+use Rattle.judge_rules.specs.Said.{ifOpen}
+use Rattle.judge_rules.specs.Rules.{Judge, Reservation, Page, Live}
+use Rattle.judge_rules.specs.Verdict.{Step, on, broken, beyond}
+use Rattle.judge_rules.specs.declared.Call.{Call}
+use Rattle.judge_rules.specs.declared.Call.the-variants.{Open, Malloc, Free, Close}
+use Rattle.judge_rules.specs.declared.Run.{Run}
 use Rattle.judge_tables.specs.Rows.{rows}
 use Rattle.judge_tables.specs.declared.Row.{Row}
 use Rattle.judge_steps.specs.declared.State.{State}
@@ -45,15 +43,25 @@ pagesIn n t = map pageOf (rows n t)
 abbrev pub liveIn : ℕ → List ℕ → List Live
 liveIn n t = map bufferOf (rows n t)
 
+-- what the four lent slices hold
+pub record Lent : Type 0 where
+  pub reservations : List ℕ
+  pub held : List ℕ
+  pub mapped : List ℕ
+  pub live : List ℕ
+
+abbrev pub lent : List ℕ → List ℕ → List ℕ → List ℕ → Lent
+lent reservations held mapped live = record { reservations = reservations; held = held; mapped = mapped; live = live }
+
 -- the state that the numbers and the four tables stand for
-unfoldable pub judgeOf : State → List ℕ → List ℕ → List ℕ → List ℕ → Judge
-judgeOf s reservations held mapped live =
+unfoldable pub judgeOf : State → Lent → Judge
+judgeOf s t =
     record {
       run = s .run;
-      reservations = reservationsIn (s .reservations) reservations;
-      held = handlesIn (s .held) held;
-      mapped = pagesIn (s .mapped) mapped;
-      live = liveIn (s .live) live;
+      reservations = reservationsIn (s .reservations) (t .reservations);
+      held = handlesIn (s .held) (t .held);
+      mapped = pagesIn (s .mapped) (t .mapped);
+      live = liveIn (s .live) (t .live);
       last = cond (s .recorded) (some (s .last)) none;
     }
 
@@ -62,8 +70,8 @@ outcomeOf On s = on s
 outcomeOf (Broken rule) s = broken rule
 outcomeOf (Beyond which) s = beyond which
 
-abbrev pub stepOf : Stepped → List ℕ → List ℕ → List ℕ → List ℕ → Step
-stepOf r reservations held mapped live = outcomeOf (r .outcome) (judgeOf (r .state) reservations held mapped live)
+abbrev pub stepOf : Stepped → Lent → Step
+stepOf r t = outcomeOf (r .outcome) (judgeOf (r .state) t)
 
 -- the state with another run; a call line's; without live buffers where the call is close
 abbrev pub withRun : State → Run → State
@@ -84,9 +92,15 @@ runOn c r l =
 abbrev pub runAt : Run → Bool → Bool → Run
 runAt r waiting over = record { opened = r .opened; page = r .page; va = r .va; asked = r .asked; waiting = waiting; over = over }
 
--- R0 of a call line
+-- R0 of a call line, of a record, of a result
 abbrev pub startsRun : Call → Run → ℕ → Bool
 startsRun c r first = ifOpen c (not (r .opened) && not (eqb first 0)) (r .opened) && not (r .waiting)
+
+abbrev pub inRun : Run → Bool
+inRun r = r .opened && (r .waiting && not (r .over))
+
+abbrev pub endsRun : Run → Line → Bool
+endsRun r l = r .opened && (r .waiting && (not (r .over) || eqb (l .first) 0 && eqb (l .second) 0 && eqb (l .third) 1))
 
 abbrev pub withoutLive : Call → State → State
 withoutLive Open s = s
@@ -94,16 +108,3 @@ withoutLive Malloc s = s
 withoutLive Free s = s
 withoutLive Close s =
     record { run = s .run; reservations = s .reservations; held = s .held; mapped = s .mapped; live = 0; recorded = s .recorded; last = s .last }
-
--- a table of at most `most` rows, of which `count` are in use
-pub record Room (most : ℕ) (t : List ℕ) (count : ℕ) : Type 0 where
-  pub room : length t ≡ 3 * most
-  pub few : count ≤ most
-
--- what a line finds: every table within its room, and once opened a page size that is not 0
-pub record Ready (s : State) (reservations held mapped live : List ℕ) : Type 0 where
-  pub reservations-room : Room 16 reservations (s .reservations)
-  pub held-room : Room 256 held (s .held)
-  pub mapped-room : Room 4096 mapped (s .mapped)
-  pub live-room : Room 128 live (s .live)
-  pub page : s .run .opened ≡ true → 0 < s .run .page

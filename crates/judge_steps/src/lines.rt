@@ -1,24 +1,22 @@
 // A line: whether a call, a record or a result may stand there, and what it says.
 ghost use mathlib.Core.Path.{_≡_};
-ghost use mathlib.Core.Bool.{true, not, _&&_, _||_};
-ghost use mathlib.Core.List.{List};
-ghost use lib.Dec.{eqb};
-ghost use Prim.Native.Nat.{ℕ, _<_};
-ghost use Rattle.judging.specs.Said.{said, ifOpen};
-ghost use Rattle.judging.specs.Verdict.{answered, judged};
-ghost use Rattle.judging.specs.declared.Said.the-variants.{Record as Records, Call as Calls, Result};
+ghost use Prim.Native.Nat.{_<_};
+ghost use Rattle.judge_rules.specs.Said.{said, ifOpen};
+ghost use Rattle.judge_rules.specs.declared.Said.the-variants.{Record, Call as Calls};
 ghost use Rattle.judge_steps.specs.declared.Outcome.the-variants.{Broken};
-ghost use Rattle.judge_steps.specs.State.{judgeOf, stepOf, withRun, withoutLive, runOn, runAt, startsRun, Room, Ready};
+ghost use Rattle.judge_steps.specs.State.{Lent, lent, withRun, withoutLive, runOn, runAt, startsRun, inRun, endsRun};
+ghost use Rattle.judge_steps.specs.Promises.{found, left, MappedFit, LiveFit, PagedOnceOpened, Ready, AnswersAsked, Steps, StepsResult};
 use crate::Outcome;
 use crate::State;
 use crate::Stepped;
 use crate::records::on_free;
 use crate::records::on_malloc;
 use crate::records::on_record;
-use judging::Asked;
-use judging::Call;
-use judging::Run;
-use judging::Said;
+use judge_rules::Asked;
+use judge_rules::Call;
+use judge_rules::Run;
+use judge_rules::Said;
+use judge_rules::Verdict;
 use trace::Line;
 use words::Word;
 
@@ -59,8 +57,8 @@ fn call_of(run: Run) -> Call
 
 // A result of answer 0.
 fn on_answer(s: State, mapped: &[u64], live: &mut [u64], a: u64, b: u64) -> Stepped
-    requires { ⌜ (0 < s .run .page) × (Room 4096 (now mapped) (s .mapped) × Room 128 (now live) (s .live)) ⌝ }
-    ensures { λ r. ⌜ ((x h : List ℕ) → stepOf r x h (now (mapped .entry)) (now (live .exit)) ≡ answered (s .run .asked .call) (judgeOf s x h (now (mapped .entry)) (now (live .entry))) a b) ⌝ }
+    requires { ⌜ (0 < s .run .page) × (MappedFit s (now mapped) × LiveFit s (now live)) ⌝ }
+    ensures { λ r. ⌜ AnswersAsked s a b (now (mapped .entry)) (now (live .entry)) r (now (live .exit)) ⌝ }
 {
     let run = s.run;
     let call = call_of(run);
@@ -78,7 +76,7 @@ fn on_answer(s: State, mapped: &[u64], live: &mut [u64], a: u64, b: u64) -> Step
     }
 }
 
-// The first record of a close ends all live buffers.
+// docs/RULES.md 8.7: no buffer is live after a record of a close.
 fn end_live(s: State) -> State
     ensures { λ r. ⌜ r ≡ withoutLive (s .run .asked .call) s ⌝ }
 {
@@ -146,11 +144,11 @@ fn said_of(kind: u64) -> Said
         9 => Said::Record(Word::Wait),
         10 => Said::Record(Word::Sync),
         11 => Said::Record(Word::Giveback),
-        12 => Said::Call(Call::Open),
-        13 => Said::Call(Call::Malloc),
-        14 => Said::Call(Call::Free),
-        15 => Said::Call(Call::Close),
-        16 => Said::Result,
+        Line::OPEN => Said::Call(Call::Open),
+        Line::MALLOC => Said::Call(Call::Malloc),
+        Line::FREE => Said::Call(Call::Free),
+        Line::CLOSE => Said::Call(Call::Close),
+        Line::RESULT => Said::Result,
         _ => Said::Unknown,
     }
 }
@@ -176,7 +174,7 @@ fn starts_run(c: Call, run: Run, first: u64) -> bool
 }
 
 fn in_run(run: Run) -> bool
-    ensures { λ r. ⌜ r ≡ (run .opened && (run .waiting && not (run .over))) ⌝ }
+    ensures { λ r. ⌜ r ≡ inRun run ⌝ }
 {
     if !run.opened {
         return false;
@@ -188,7 +186,7 @@ fn in_run(run: Run) -> bool
 }
 
 fn ends_run(run: Run, l: Line) -> bool
-    ensures { λ r. ⌜ r ≡ (run .opened && (run .waiting && (not (run .over) || eqb (l .first) 0 && eqb (l .second) 0 && eqb (l .third) 1))) ⌝ }
+    ensures { λ r. ⌜ r ≡ endsRun run l ⌝ }
 {
     if !run.opened {
         return false;
@@ -213,13 +211,13 @@ fn broken(s: State) -> Stepped
 {
     Stepped {
         state: s,
-        outcome: Outcome::Broken(0),
+        outcome: Outcome::Broken(Verdict::R0),
     }
 }
 
 // A call line.
 fn step_call(s: State, c: Call, l: Line) -> Stepped
-    ensures { λ r. ⌜ ((a h m b : List ℕ) → stepOf r a h m b ≡ judged (Calls c) (judgeOf s a h m b) l) ⌝ }
+    ensures { λ r. ⌜ ((t : Lent) → Steps (Calls c) s l t r t) ⌝ }
 {
     if !starts_run(c, s.run, l.first) {
         return broken(s);
@@ -230,7 +228,7 @@ fn step_call(s: State, c: Call, l: Line) -> Stepped
     }
 }
 
-// A record. With code above 0 it meets only R0 and has no effect.
+// A record. A failed one has no rule but R0, and changes nothing else.
 fn step_record(
     s: State,
     reservations: &mut [u64],
@@ -240,8 +238,9 @@ fn step_record(
     word: Word,
     l: Line,
 ) -> Stepped
-    requires { ⌜ Ready s (now reservations) (now held) (now mapped) (now live) ⌝ }
-    ensures { λ r. ⌜ stepOf r (now (reservations .exit)) (now (held .exit)) (now (mapped .exit)) (now (live .exit)) ≡ judged (Records word) (judgeOf s (now (reservations .entry)) (now (held .entry)) (now (mapped .entry)) (now (live .entry))) l ⌝ }
+    requires { ⌜ Ready s (lent (now reservations) (now held) (now mapped) (now live)) ⌝ }
+    ensures { λ r. ⌜ Steps (Record word) s l
+        (found reservations held mapped live) r (left reservations held mapped live) ⌝ }
 {
     if !in_run(s.run) {
         return broken(s);
@@ -258,8 +257,8 @@ fn step_record(
 
 // A result.
 fn step_result(s: State, mapped: &[u64], live: &mut [u64], l: Line) -> Stepped
-    requires { ⌜ (s .run .opened ≡ true → 0 < s .run .page) × (Room 4096 (now mapped) (s .mapped) × Room 128 (now live) (s .live)) ⌝ }
-    ensures { λ r. ⌜ ((a h : List ℕ) → stepOf r a h (now (mapped .entry)) (now (live .exit)) ≡ judged Result (judgeOf s a h (now (mapped .entry)) (now (live .entry))) l) ⌝ }
+    requires { ⌜ PagedOnceOpened s × (MappedFit s (now mapped) × LiveFit s (now live)) ⌝ }
+    ensures { λ r. ⌜ StepsResult s l (now (mapped .entry)) (now (live .entry)) r (now (live .exit)) ⌝ }
 {
     let run = s.run;
     if !ends_run(run, l) {
@@ -284,8 +283,9 @@ pub fn step(
     live: &mut [u64],
     l: Line,
 ) -> Stepped
-    requires { ⌜ Ready s (now reservations) (now held) (now mapped) (now live) ⌝ }
-    ensures { λ r. ⌜ stepOf r (now (reservations .exit)) (now (held .exit)) (now (mapped .exit)) (now (live .exit)) ≡ judged (said (l .kind)) (judgeOf s (now (reservations .entry)) (now (held .entry)) (now (mapped .entry)) (now (live .entry))) l ⌝ }
+    requires { ⌜ Ready s (lent (now reservations) (now held) (now mapped) (now live)) ⌝ }
+    ensures { λ r. ⌜ Steps (said (l .kind)) s l
+        (found reservations held mapped live) r (left reservations held mapped live) ⌝ }
 {
     let what = said_of(l.kind);
     match what {

@@ -1,11 +1,9 @@
 // What a record of code 0 and a result of answer 0 do: the rule first, then the size, then the change.
-ghost use mathlib.Core.Path.{_≡_};
-ghost use mathlib.Core.List.{List};
-ghost use Prim.Native.Nat.{ℕ, _<_};
-ghost use Rattle.judging.specs.Verdict.{recorded, answered};
-ghost use Rattle.judging.specs.declared.Call.the-variants.{Malloc, Free};
-ghost use Rattle.words.specs.declared.Word.the-variants.{Reserve, Create, Map, Access, Unmap, Release, Record as RecordEvent, Asked as AskedFor, Giveback};
-ghost use Rattle.judge_steps.specs.State.{judgeOf, stepOf, Room};
+ghost use Prim.Native.Nat.{_<_};
+ghost use Rattle.words.specs.declared.Word.the-variants.{Record as RecordEvent, Asked as AskedFor};
+ghost use Rattle.judge_steps.specs.State.{Lent, lent};
+ghost use Rattle.judge_steps.specs.Promises.{found, left, ReservationsFit, HeldFit, MappedFit, LiveFit, TablesFit};
+ghost use Rattle.judge_steps.specs.Promises.{Records, Reserves, Creates, Maps, Accesses, Unmaps, Releases, GivesBack, Mallocs, Frees};
 use crate::Outcome;
 use crate::State;
 use crate::Stepped;
@@ -16,6 +14,7 @@ use crate::rules::r4;
 use crate::rules::r5;
 use crate::rules::r7;
 use crate::rules::r10;
+use judge_rules::Verdict;
 use judge_tables::Row;
 use judge_tables::has;
 use judge_tables::has_all;
@@ -24,20 +23,20 @@ use judge_tables::without;
 use words::Word;
 
 fn on_reserve(s: State, reservations: &mut [u64], base: u64, size: u64) -> Stepped
-    requires { ⌜ (0 < s .run .page) × Room 16 (now reservations) (s .reservations) ⌝ }
-    ensures { λ r. ⌜ ((h m l : List ℕ) → stepOf r (now (reservations .exit)) h m l ≡ recorded Reserve (judgeOf s (now (reservations .entry)) h m l) base size) ⌝ }
+    requires { ⌜ (0 < s .run .page) × ReservationsFit s (now reservations) ⌝ }
+    ensures { λ r. ⌜ Reserves s base size (now (reservations .entry)) r (now (reservations .exit)) ⌝ }
 {
     if !r1(s, reservations, base, size) {
         return Stepped {
             state: s,
-            outcome: Outcome::Broken(1),
+            outcome: Outcome::Broken(Verdict::R1),
         };
     }
     let count = s.reservations;
-    if 16 <= count {
+    if State::MOST_RESERVATIONS <= count {
         return Stepped {
             state: s,
-            outcome: Outcome::Beyond(1),
+            outcome: Outcome::Beyond(Verdict::RESERVATIONS),
         };
     }
     put(
@@ -58,20 +57,20 @@ fn on_reserve(s: State, reservations: &mut [u64], base: u64, size: u64) -> Stepp
 }
 
 fn on_create(s: State, held: &mut [u64], handle: u64, bytes: u64) -> Stepped
-    requires { ⌜ Room 256 (now held) (s .held) ⌝ }
-    ensures { λ r. ⌜ ((a m l : List ℕ) → stepOf r a (now (held .exit)) m l ≡ recorded Create (judgeOf s a (now (held .entry)) m l) handle bytes) ⌝ }
+    requires { ⌜ HeldFit s (now held) ⌝ }
+    ensures { λ r. ⌜ Creates s handle bytes (now (held .entry)) r (now (held .exit)) ⌝ }
 {
     let count = s.held;
     if has(held, count, handle) {
         return Stepped {
             state: s,
-            outcome: Outcome::Broken(2),
+            outcome: Outcome::Broken(Verdict::R2),
         };
     }
-    if 256 <= count {
+    if State::MOST_HELD <= count {
         return Stepped {
             state: s,
-            outcome: Outcome::Beyond(2),
+            outcome: Outcome::Beyond(Verdict::HELD_HANDLES),
         };
     }
     put(
@@ -99,20 +98,22 @@ fn on_map(
     address: u64,
     handle: u64,
 ) -> Stepped
-    requires { ⌜ (0 < s .run .page) × (Room 16 (now reservations) (s .reservations) × (Room 256 (now held) (s .held) × Room 4096 (now mapped) (s .mapped))) ⌝ }
-    ensures { λ r. ⌜ ((l : List ℕ) → stepOf r (now (reservations .entry)) (now (held .entry)) (now (mapped .exit)) l ≡ recorded Map (judgeOf s (now (reservations .entry)) (now (held .entry)) (now (mapped .entry)) l) address handle) ⌝ }
+    requires { ⌜ 0 < s .run .page ⌝ }
+    requires { ⌜ ReservationsFit s (now reservations) × (HeldFit s (now held) × MappedFit s (now mapped)) ⌝ }
+    ensures { λ r. ⌜ Maps s address handle
+        (now (reservations .entry)) (now (held .entry)) (now (mapped .entry)) r (now (mapped .exit)) ⌝ }
 {
     if !r3(s, reservations, held, mapped, address, handle) {
         return Stepped {
             state: s,
-            outcome: Outcome::Broken(3),
+            outcome: Outcome::Broken(Verdict::R3),
         };
     }
     let count = s.mapped;
-    if 4096 <= count {
+    if State::MOST_MAPPED <= count {
         return Stepped {
             state: s,
-            outcome: Outcome::Beyond(4),
+            outcome: Outcome::Beyond(Verdict::MAPPED_PAGES),
         };
     }
     put(
@@ -133,8 +134,8 @@ fn on_map(
 }
 
 fn on_access(s: State, mapped: &[u64], address: u64, bytes: u64) -> Stepped
-    requires { ⌜ (0 < s .run .page) × Room 4096 (now mapped) (s .mapped) ⌝ }
-    ensures { λ r. ⌜ ((a h l : List ℕ) → stepOf r a h (now (mapped .entry)) l ≡ recorded Access (judgeOf s a h (now (mapped .entry)) l) address bytes) ⌝ }
+    requires { ⌜ (0 < s .run .page) × MappedFit s (now mapped) ⌝ }
+    ensures { λ r. ⌜ Accesses s address bytes (now (mapped .entry)) r ⌝ }
 {
     if is_whole(s.run.page, mapped, s.mapped, address, bytes) {
         return Stepped {
@@ -144,18 +145,18 @@ fn on_access(s: State, mapped: &[u64], address: u64, bytes: u64) -> Stepped
     }
     Stepped {
         state: s,
-        outcome: Outcome::Broken(6),
+        outcome: Outcome::Broken(Verdict::R6),
     }
 }
 
 fn on_unmap(s: State, mapped: &mut [u64], live: &[u64], address: u64, bytes: u64) -> Stepped
-    requires { ⌜ (0 < s .run .page) × (Room 4096 (now mapped) (s .mapped) × Room 128 (now live) (s .live)) ⌝ }
-    ensures { λ r. ⌜ ((a h : List ℕ) → stepOf r a h (now (mapped .exit)) (now (live .entry)) ≡ recorded Unmap (judgeOf s a h (now (mapped .entry)) (now (live .entry))) address bytes) ⌝ }
+    requires { ⌜ (0 < s .run .page) × (MappedFit s (now mapped) × LiveFit s (now live)) ⌝ }
+    ensures { λ r. ⌜ Unmaps s address bytes (now (mapped .entry)) (now (live .entry)) r (now (mapped .exit)) ⌝ }
 {
     if !r4(s, mapped, live, address, bytes) {
         return Stepped {
             state: s,
-            outcome: Outcome::Broken(4),
+            outcome: Outcome::Broken(Verdict::R4),
         };
     }
     let mut out = s;
@@ -167,13 +168,13 @@ fn on_unmap(s: State, mapped: &mut [u64], live: &[u64], address: u64, bytes: u64
 }
 
 fn on_release(s: State, held: &mut [u64], mapped: &[u64], handle: u64, zero: u64) -> Stepped
-    requires { ⌜ Room 256 (now held) (s .held) × Room 4096 (now mapped) (s .mapped) ⌝ }
-    ensures { λ r. ⌜ ((a l : List ℕ) → stepOf r a (now (held .exit)) (now (mapped .entry)) l ≡ recorded Release (judgeOf s a (now (held .entry)) (now (mapped .entry)) l) handle zero) ⌝ }
+    requires { ⌜ HeldFit s (now held) × MappedFit s (now mapped) ⌝ }
+    ensures { λ r. ⌜ Releases s handle zero (now (held .entry)) (now (mapped .entry)) r (now (held .exit)) ⌝ }
 {
     if !r5(s, held, mapped, handle) {
         return Stepped {
             state: s,
-            outcome: Outcome::Broken(5),
+            outcome: Outcome::Broken(Verdict::R5),
         };
     }
     let mut out = s;
@@ -185,13 +186,13 @@ fn on_release(s: State, held: &mut [u64], mapped: &[u64], handle: u64, zero: u64
 }
 
 fn on_event(s: State, id: u64, stream: u64) -> Stepped
-    ensures { λ r. ⌜ ((a h m l : List ℕ) → stepOf r a h m l ≡ recorded RecordEvent (judgeOf s a h m l) id stream) ⌝ }
+    ensures { λ r. ⌜ ((t : Lent) → Records s id stream RecordEvent t r t) ⌝ }
 {
     if s.recorded {
         if id <= s.last {
             return Stepped {
                 state: s,
-                outcome: Outcome::Broken(9),
+                outcome: Outcome::Broken(Verdict::R9),
             };
         }
     }
@@ -205,7 +206,7 @@ fn on_event(s: State, id: u64, stream: u64) -> Stepped
 }
 
 fn on_asked(s: State, id: u64, second: u64) -> Stepped
-    ensures { λ r. ⌜ ((a h m l : List ℕ) → stepOf r a h m l ≡ recorded AskedFor (judgeOf s a h m l) id second) ⌝ }
+    ensures { λ r. ⌜ ((t : Lent) → Records s id second AskedFor t r t) ⌝ }
 {
     if s.recorded {
         if id <= s.last {
@@ -217,18 +218,19 @@ fn on_asked(s: State, id: u64, second: u64) -> Stepped
     }
     Stepped {
         state: s,
-        outcome: Outcome::Broken(9),
+        outcome: Outcome::Broken(Verdict::R9),
     }
 }
 
 fn on_giveback(s: State, reservations: &mut [u64], mapped: &[u64], base: u64, size: u64) -> Stepped
-    requires { ⌜ Room 16 (now reservations) (s .reservations) × Room 4096 (now mapped) (s .mapped) ⌝ }
-    ensures { λ r. ⌜ ((h l : List ℕ) → stepOf r (now (reservations .exit)) h (now (mapped .entry)) l ≡ recorded Giveback (judgeOf s (now (reservations .entry)) h (now (mapped .entry)) l) base size) ⌝ }
+    requires { ⌜ ReservationsFit s (now reservations) × MappedFit s (now mapped) ⌝ }
+    ensures { λ r. ⌜ GivesBack s base size
+        (now (reservations .entry)) (now (mapped .entry)) r (now (reservations .exit)) ⌝ }
 {
     if !r10(s, reservations, mapped, base, size) {
         return Stepped {
             state: s,
-            outcome: Outcome::Broken(10),
+            outcome: Outcome::Broken(Verdict::R10),
         };
     }
     let mut out = s;
@@ -240,20 +242,20 @@ fn on_giveback(s: State, reservations: &mut [u64], mapped: &[u64], base: u64, si
 }
 
 pub fn on_malloc(s: State, mapped: &[u64], live: &mut [u64], start: u64, size: u64) -> Stepped
-    requires { ⌜ (0 < s .run .page) × (Room 4096 (now mapped) (s .mapped) × Room 128 (now live) (s .live)) ⌝ }
-    ensures { λ r. ⌜ ((a h : List ℕ) → stepOf r a h (now (mapped .entry)) (now (live .exit)) ≡ answered Malloc (judgeOf s a h (now (mapped .entry)) (now (live .entry))) start size) ⌝ }
+    requires { ⌜ (0 < s .run .page) × (MappedFit s (now mapped) × LiveFit s (now live)) ⌝ }
+    ensures { λ r. ⌜ Mallocs s start size (now (mapped .entry)) (now (live .entry)) r (now (live .exit)) ⌝ }
 {
     if !r7(s, mapped, live, start, size) {
         return Stepped {
             state: s,
-            outcome: Outcome::Broken(7),
+            outcome: Outcome::Broken(Verdict::R7),
         };
     }
     let count = s.live;
-    if 128 <= count {
+    if State::MOST_LIVE <= count {
         return Stepped {
             state: s,
-            outcome: Outcome::Beyond(3),
+            outcome: Outcome::Beyond(Verdict::LIVE_BUFFERS),
         };
     }
     let stream = s.run.asked.second;
@@ -275,14 +277,14 @@ pub fn on_malloc(s: State, mapped: &[u64], live: &mut [u64], start: u64, size: u
 }
 
 pub fn on_free(s: State, live: &mut [u64], size: u64, stream: u64) -> Stepped
-    requires { ⌜ Room 128 (now live) (s .live) ⌝ }
-    ensures { λ r. ⌜ ((a h m : List ℕ) → stepOf r a h m (now (live .exit)) ≡ answered Free (judgeOf s a h m (now (live .entry))) size stream) ⌝ }
+    requires { ⌜ LiveFit s (now live) ⌝ }
+    ensures { λ r. ⌜ Frees s size stream (now (live .entry)) r (now (live .exit)) ⌝ }
 {
     let start = s.run.asked.first;
     if !has_all(live, s.live, start, size, stream) {
         return Stepped {
             state: s,
-            outcome: Outcome::Broken(8),
+            outcome: Outcome::Broken(Verdict::R8),
         };
     }
     let mut out = s;
@@ -304,8 +306,9 @@ pub fn on_record(
     a: u64,
     b: u64,
 ) -> Stepped
-    requires { ⌜ (0 < s .run .page) × (Room 16 (now reservations) (s .reservations) × (Room 256 (now held) (s .held) × (Room 4096 (now mapped) (s .mapped) × Room 128 (now live) (s .live)))) ⌝ }
-    ensures { λ r. ⌜ stepOf r (now (reservations .exit)) (now (held .exit)) (now (mapped .exit)) (now (live .exit)) ≡ recorded word (judgeOf s (now (reservations .entry)) (now (held .entry)) (now (mapped .entry)) (now (live .entry))) a b ⌝ }
+    requires { ⌜ (0 < s .run .page) × TablesFit s (lent (now reservations) (now held) (now mapped) (now live)) ⌝ }
+    ensures { λ r. ⌜ Records s a b word
+        (found reservations held mapped live) r (left reservations held mapped live) ⌝ }
 {
     match word {
         Word::Reserve => on_reserve(s, reservations, a, b),

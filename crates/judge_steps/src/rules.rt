@@ -1,10 +1,10 @@
 // The rules R1, R3, R4, R5, R7 and R10, over the tables as they stand. Each is equal to its definition.
 ghost use mathlib.Core.Path.{_≡_};
-ghost use mathlib.Core.List.{List};
-ghost use Prim.Native.Nat.{ℕ, _*_, _≤_, _<_};
-ghost use lib.ListN.{length};
-ghost use Rattle.judging.specs.Rules.{wholePages, credible, inReservation, R1, R3, R4, R5, R7, R10};
-ghost use Rattle.judge_steps.specs.State.{reservationsIn, pagesIn, judgeOf};
+ghost use Prim.Native.Nat.{_<_};
+ghost use Rattle.judge_rules.specs.Rules.{wholePages, credible, inReservation};
+ghost use Rattle.judge_tables.specs.Promises.{HasRows};
+ghost use Rattle.judge_steps.specs.State.{reservationsIn, pagesIn};
+ghost use Rattle.judge_steps.specs.Promises.{ReservationsFit, HeldFit, MappedFit, LiveFit, TellsR1, TellsR3, TellsR4, TellsR5, TellsR7, TellsR10};
 use crate::State;
 use judge_tables::all_clear;
 use judge_tables::all_mapped;
@@ -15,9 +15,12 @@ use judge_tables::in_one;
 use judge_tables::no_handle_twice;
 use judge_tables::none_inside;
 
-// One or more whole mapped pages.
+// Where a reservation may end at the latest, 2^63.
+const END: u64 = 0x8000_0000_0000_0000;
+
+// A range of mapped pages (docs/RULES.md 8.4).
 pub fn is_whole(page: u64, mapped: &[u64], count: usize, address: u64, bytes: u64) -> bool
-    requires { ⌜ (0 < page) × (3 * count ≤ length (now mapped)) ⌝ }
+    requires { ⌜ (0 < page) × HasRows count (now mapped) ⌝ }
     ensures { λ r. ⌜ r ≡ wholePages page (pagesIn count (now (mapped .entry))) address bytes ⌝ }
 {
     if bytes == 0 {
@@ -33,7 +36,7 @@ pub fn is_whole(page: u64, mapped: &[u64], count: usize, address: u64, bytes: u6
 }
 
 fn is_credible(page: u64, reservations: &[u64], count: usize, base: u64, size: u64) -> bool
-    requires { ⌜ (0 < page) × (3 * count ≤ length (now reservations)) ⌝ }
+    requires { ⌜ (0 < page) × HasRows count (now reservations) ⌝ }
     ensures { λ r. ⌜ r ≡ credible page (reservationsIn count (now (reservations .entry))) base size ⌝ }
 {
     if base == 0 {
@@ -42,17 +45,17 @@ fn is_credible(page: u64, reservations: &[u64], count: usize, base: u64, size: u
     if base % page != 0 {
         return false;
     }
-    if 9223372036854775808 < size {
+    if END < size {
         return false;
     }
-    if 9223372036854775808 - size < base {
+    if END - size < base {
         return false;
     }
     all_clear(reservations, count, base, size)
 }
 
 fn is_reserved(page: u64, reservations: &[u64], count: usize, address: u64) -> bool
-    requires { ⌜ (0 < page) × (3 * count ≤ length (now reservations)) ⌝ }
+    requires { ⌜ (0 < page) × HasRows count (now reservations) ⌝ }
     ensures { λ r. ⌜ r ≡ inReservation page (reservationsIn count (now (reservations .entry))) address ⌝ }
 {
     if address % page != 0 {
@@ -62,8 +65,8 @@ fn is_reserved(page: u64, reservations: &[u64], count: usize, address: u64) -> b
 }
 
 pub fn r1(s: State, reservations: &[u64], base: u64, size: u64) -> bool
-    requires { ⌜ (0 < s .run .page) × (3 * s .reservations ≤ length (now reservations)) ⌝ }
-    ensures { λ r. ⌜ ((h m l : List ℕ) → r ≡ R1 (judgeOf s (now (reservations .entry)) h m l) base size) ⌝ }
+    requires { ⌜ (0 < s .run .page) × ReservationsFit s (now reservations) ⌝ }
+    ensures { λ r. ⌜ TellsR1 s base size (now (reservations .entry)) r ⌝ }
 {
     let page = s.run.page;
     if !is_credible(page, reservations, s.reservations, base, size) {
@@ -86,8 +89,10 @@ pub fn r3(
     address: u64,
     handle: u64,
 ) -> bool
-    requires { ⌜ (0 < s .run .page) × ((3 * s .reservations ≤ length (now reservations)) × ((3 * s .held ≤ length (now held)) × (3 * s .mapped ≤ length (now mapped)))) ⌝ }
-    ensures { λ r. ⌜ ((l : List ℕ) → r ≡ R3 (judgeOf s (now (reservations .entry)) (now (held .entry)) (now (mapped .entry)) l) address handle) ⌝ }
+    requires { ⌜ 0 < s .run .page ⌝ }
+    requires { ⌜ ReservationsFit s (now reservations) × (HeldFit s (now held) × MappedFit s (now mapped)) ⌝ }
+    ensures { λ r. ⌜ TellsR3 s address handle
+        (now (reservations .entry)) (now (held .entry)) (now (mapped .entry)) r ⌝ }
 {
     if !is_reserved(s.run.page, reservations, s.reservations, address) {
         return false;
@@ -99,8 +104,8 @@ pub fn r3(
 }
 
 pub fn r4(s: State, mapped: &[u64], live: &[u64], address: u64, bytes: u64) -> bool
-    requires { ⌜ (0 < s .run .page) × ((3 * s .mapped ≤ length (now mapped)) × (3 * s .live ≤ length (now live))) ⌝ }
-    ensures { λ r. ⌜ ((a h : List ℕ) → r ≡ R4 (judgeOf s a h (now (mapped .entry)) (now (live .entry))) address bytes) ⌝ }
+    requires { ⌜ (0 < s .run .page) × (MappedFit s (now mapped) × LiveFit s (now live)) ⌝ }
+    ensures { λ r. ⌜ TellsR4 s address bytes (now (mapped .entry)) (now (live .entry)) r ⌝ }
 {
     if !is_whole(s.run.page, mapped, s.mapped, address, bytes) {
         return false;
@@ -109,8 +114,8 @@ pub fn r4(s: State, mapped: &[u64], live: &[u64], address: u64, bytes: u64) -> b
 }
 
 pub fn r5(s: State, held: &[u64], mapped: &[u64], handle: u64) -> bool
-    requires { ⌜ (3 * s .held ≤ length (now held)) × (3 * s .mapped ≤ length (now mapped)) ⌝ }
-    ensures { λ r. ⌜ ((a l : List ℕ) → r ≡ R5 (judgeOf s a (now (held .entry)) (now (mapped .entry)) l) handle) ⌝ }
+    requires { ⌜ HeldFit s (now held) × MappedFit s (now mapped) ⌝ }
+    ensures { λ r. ⌜ TellsR5 s handle (now (held .entry)) (now (mapped .entry)) r ⌝ }
 {
     if !has(held, s.held, handle) {
         return false;
@@ -119,8 +124,8 @@ pub fn r5(s: State, held: &[u64], mapped: &[u64], handle: u64) -> bool
 }
 
 pub fn r7(s: State, mapped: &[u64], live: &[u64], start: u64, size: u64) -> bool
-    requires { ⌜ (0 < s .run .page) × ((3 * s .mapped ≤ length (now mapped)) × (3 * s .live ≤ length (now live))) ⌝ }
-    ensures { λ r. ⌜ ((a h : List ℕ) → r ≡ R7 (judgeOf s a h (now (mapped .entry)) (now (live .entry))) start size) ⌝ }
+    requires { ⌜ (0 < s .run .page) × (MappedFit s (now mapped) × LiveFit s (now live)) ⌝ }
+    ensures { λ r. ⌜ TellsR7 s start size (now (mapped .entry)) (now (live .entry)) r ⌝ }
 {
     if size != s.run.asked.first {
         return false;
@@ -135,8 +140,8 @@ pub fn r7(s: State, mapped: &[u64], live: &[u64], start: u64, size: u64) -> bool
 }
 
 pub fn r10(s: State, reservations: &[u64], mapped: &[u64], base: u64, size: u64) -> bool
-    requires { ⌜ (3 * s .reservations ≤ length (now reservations)) × (3 * s .mapped ≤ length (now mapped)) ⌝ }
-    ensures { λ r. ⌜ ((h l : List ℕ) → r ≡ R10 (judgeOf s (now (reservations .entry)) h (now (mapped .entry)) l) base size) ⌝ }
+    requires { ⌜ ReservationsFit s (now reservations) × MappedFit s (now mapped) ⌝ }
+    ensures { λ r. ⌜ TellsR10 s base size (now (reservations .entry)) (now (mapped .entry)) r ⌝ }
 {
     if !has_both(reservations, s.reservations, base, size) {
         return false;

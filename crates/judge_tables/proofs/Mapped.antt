@@ -1,4 +1,4 @@
--- Laws of a walk over the pages of a range, and of the test that a page's handle is its own. Assumes nothing.
+-- Laws of a walk over the pages of a range, and of the test that a page's handle is its own.
 use mathlib.Core.Path.{_≡_, refl}
 use mathlib.Core.Bool.{Bool, true, false, _||_, not}
 use mathlib.Core.List.{List, _∷_}
@@ -8,8 +8,8 @@ use borrow.Author.Tests.{eq-eqb, ne-eqb}
 use lib.Dec.{eqb}
 use lib.ListN.{getD}
 use Rattle.lists.specs.Tests.{any, every}
-use Rattle.judging.specs.Ranges.{inside, pagesFrom}
-use Rattle.judge_tables.specs.Rows.{rows, firstIs, around, noClash, alone}
+use Rattle.judge_rules.specs.Ranges.{inside, pagesFrom}
+use Rattle.judge_tables.specs.Rows.{perRow, rows, firstIs, around, noClash, alone}
 use Rattle.judge_tables.specs.declared.Row.{Row}
 
 pages-down : (p x i : ℕ) → 0 < i → pagesFrom p x i ≡ x ∷ pagesFrom p (x + p) (i - 1)
@@ -26,7 +26,7 @@ module _ (t : ℕ → Bool) (p x i : ℕ) (h : 0 < i) where
 -- no row begins with a number that no cell can hold
 none-beyond : (t : List ℕ) → ((i : ℕ) → getD t i 0 < 2 ^ 64) → (n x : ℕ) → 2 ^ 64 ≤ x → any (firstIs x) (rows n t) ≡ false
 none-beyond t f zero x h = refl
-none-beyond t f (suc n) x h = rw (ne-eqb (getD t (3 * n) 0) x (λ e. absurd (omega (arith, f (3 * n))))) (none-beyond t f n x h)
+none-beyond t f (suc n) x h = rw (ne-eqb (getD t (perRow * n) 0) x (λ e. absurd (omega (arith, f (perRow * n))))) (none-beyond t f n x h)
 
 pub pages-beyond : (t : List ℕ) → ((i : ℕ) → getD t i 0 < 2 ^ 64) → (n p x i : ℕ) → 2 ^ 64 ≤ x → eqb i 0 ≡ every (λ y. any (firstIs y) (rows n t)) (pagesFrom p x i)
 pages-beyond t f n p x zero h = refl

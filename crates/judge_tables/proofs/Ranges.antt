@@ -1,4 +1,4 @@
--- Tests of ranges as the code does them, by subtraction, so that no sum can wrap. Assumes nothing.
+-- Tests of ranges as the code does them, by subtraction, so that no sum can wrap.
 use mathlib.Core.Path.{_≡_}
 use mathlib.Core.Bool.{true, false, _&&_}
 use mathlib.Core.Logic.{⊎-elim}
@@ -7,7 +7,7 @@ use native.Mathlib.Omega.{arith}
 use borrow.Author.Tests.{eq-eqb, ne-eqb, le-leb, lt-leb, lt-ltb, le-ltb}
 use lib.Dec.{ltb, leb, eqb}
 use Rattle.lists.proofs.Tests.{cases-lt, cases-eq}
-use Rattle.judging.specs.Ranges.{inside, clear}
+use Rattle.judge_rules.specs.Ranges.{inside, clear}
 
 pub inside-low : (a n x : ℕ) → x < a → false ≡ inside a n x
 inside-low a n x h = rw (lt-leb a x h)

@@ -1,4 +1,4 @@
--- Laws of a table in a slice: a turn of a walk over its rows, and a row put at a place. Assumes nothing.
+-- Laws of a table in a slice: a turn of a walk over its rows, and a row put at a place.
 use mathlib.Core.Path.{_≡_, refl, ap, sym, _∙_}
 use mathlib.Core.Logic.{_≢_}
 use mathlib.Core.Bool.{Bool, true, false, cond}
@@ -8,7 +8,8 @@ use native.Mathlib.Omega.{arith}
 use lib.ListN.{length, getD, set, length-set}
 use lib.Seq.{getD-set-same, getD-set-other}
 use Rattle.lists.specs.Tests.{any, every, filter}
-use Rattle.judge_tables.specs.Rows.{rowAt, rows, putRow}
+use Rattle.judge_tables.specs.Rows.{perRow, rowAt, rows, putRow}
+use Rattle.judge_tables.specs.Promises.{HasRows}
 use Rattle.judge_tables.specs.declared.Row.{Row}
 
 -- a turn, downward and upward
@@ -42,40 +43,40 @@ pub length-put : (t : List ℕ) (i : ℕ) (w : Row) → length (putRow t i w) �
 unfolding putRow
 length-put t i w = simp length-set
 
-pub put-same : (t : List ℕ) (i : ℕ) (w : Row) → 3 * i + 3 ≤ length t → rowAt (putRow t i w) i ≡ w
+pub put-same : (t : List ℕ) (i : ℕ) (w : Row) → HasRows (i + 1) t → rowAt (putRow t i w) i ≡ w
 unfolding putRow
 put-same t i w h =
-    let one = set t (3 * i) (w .first) in
-    let two = set one (3 * i + 1) (w .second) in
+    let one = set t (perRow * i) (w .first) in
+    let two = set one (perRow * i + 1) (w .second) in
     let a =
-    getD-set-other two (3 * i + 2) (3 * i) (w .third) 0 (omega arith) ∙ getD-set-other one (3 * i + 1) (3 * i) (w .second) 0 (omega arith)
-    ∙ getD-set-same t (3 * i) (w .first) 0 (omega arith)
+    getD-set-other two (perRow * i + 2) (perRow * i) (w .third) 0 (omega arith) ∙ getD-set-other one (perRow * i + 1) (perRow * i) (w .second) 0 (omega arith)
+    ∙ getD-set-same t (perRow * i) (w .first) 0 (omega arith)
     in
-    let b = getD-set-other two (3 * i + 2) (3 * i + 1) (w .third) 0 (omega arith) ∙ getD-set-same one (3 * i + 1) (w .second) 0 (simp length-set (omega arith)) in
-    let c = getD-set-same two (3 * i + 2) (w .third) 0 (simp length-set (omega arith)) in
+    let b = getD-set-other two (perRow * i + 2) (perRow * i + 1) (w .third) 0 (omega arith) ∙ getD-set-same one (perRow * i + 1) (w .second) 0 (simp length-set (omega arith)) in
+    let c = getD-set-same two (perRow * i + 2) (w .third) 0 (simp length-set (omega arith)) in
     λ j. record { first = a j; second = b j; third = c j }
 
 pub put-other : (t : List ℕ) (i : ℕ) (w : Row) (k : ℕ) → k ≢ i → rowAt (putRow t i w) k ≡ rowAt t k
 unfolding putRow
-put-other t i w k d = λ j. record { first = keeps (3 * k) (omega arith) (omega arith) (omega arith) j; second = keeps (3 * k + 1) (omega arith) (omega arith) (omega arith) j; third = keeps (3 * k + 2) (omega arith) (omega arith) (omega arith) j }
+put-other t i w k d = λ j. record { first = keeps (perRow * k) (omega arith) (omega arith) (omega arith) j; second = keeps (perRow * k + 1) (omega arith) (omega arith) (omega arith) j; third = keeps (perRow * k + 2) (omega arith) (omega arith) (omega arith) j }
   where
-    keeps : (x : ℕ) → x ≢ 3 * i → x ≢ 3 * i + 1 → x ≢ 3 * i + 2 → getD (set (set (set t (3 * i) (w .first)) (3 * i + 1) (w .second)) (3 * i + 2) (w .third)) x 0 ≡ getD t x 0
+    keeps : (x : ℕ) → x ≢ perRow * i → x ≢ perRow * i + 1 → x ≢ perRow * i + 2 → getD (set (set (set t (perRow * i) (w .first)) (perRow * i + 1) (w .second)) (perRow * i + 2) (w .third)) x 0 ≡ getD t x 0
     keeps x p q r =
-        getD-set-other (set (set t (3 * i) (w .first)) (3 * i + 1) (w .second)) (3 * i + 2) x (w .third) 0 r
-        ∙ getD-set-other (set t (3 * i) (w .first)) (3 * i + 1) x (w .second) 0 q
-        ∙ getD-set-other t (3 * i) x (w .first) 0 p
+        getD-set-other (set (set t (perRow * i) (w .first)) (perRow * i + 1) (w .second)) (perRow * i + 2) x (w .third) 0 r
+        ∙ getD-set-other (set t (perRow * i) (w .first)) (perRow * i + 1) x (w .second) 0 q
+        ∙ getD-set-other t (perRow * i) x (w .first) 0 p
 
 put-below : (t : List ℕ) (i : ℕ) (w : Row) (k : ℕ) → k ≤ i → rows k (putRow t i w) ≡ rows k t
 put-below t i w zero h = refl
 put-below t i w (suc k) h = λ j. put-other t i w k (omega arith) j ∷ put-below t i w k (omega arith) j
 
 -- one row more
-pub put-next : (t : List ℕ) (i : ℕ) (w : Row) → 3 * i + 3 ≤ length t → rows (i + 1) (putRow t i w) ≡ w ∷ rows i t
+pub put-next : (t : List ℕ) (i : ℕ) (w : Row) → HasRows (i + 1) t → rows (i + 1) (putRow t i w) ≡ w ∷ rows i t
 put-next t i w h = turn-up (putRow t i w) i ∙ (λ j. put-same t i w h j ∷ put-below t i w i (omega arith) j)
 
 -- One turn of the walk that keeps the rows that pass a test: what `keep` does to the two tables, by its test.
 module _ (p : Row → Bool) (t₀ t : List ℕ) (i j : ℕ) where
-  pub keep-rows : (b : Bool) → p (rowAt t i) ≡ b → rowAt t i ≡ rowAt t₀ i → 3 * j + 3 ≤ length t → rows j t ≡ filter p (rows i t₀) →
+  pub keep-rows : (b : Bool) → p (rowAt t i) ≡ b → rowAt t i ≡ rowAt t₀ i → HasRows (j + 1) t → rows j t ≡ filter p (rows i t₀) →
       rows (cond b (j + 1) j) (cond b (putRow t j (rowAt t i)) t) ≡ filter p (rows (i + 1) t₀)
   keep-rows true e s h r =
       let f : p (rowAt t₀ i) ≡ true = ap p (sym s) ∙ e in

@@ -1,18 +1,25 @@
-// The judge's tables: rows of three numbers in a lent slice, the first `count` in use. One search, one filter and one store serve all of them.
+// The judge's tables: rows of three numbers in a lent slice, the first `count` in use. A question to a table is a walk down its rows, with a function for each
+// test. One filter and one store change all of them.
 ghost use mathlib.Core.Path.{_≡_};
-ghost use mathlib.Core.Bool.{cond, _&&_};
-ghost use Prim.Native.Nat.{_+_, _*_, _≤_, _<_};
+ghost use mathlib.Core.Bool.{_&&_};
+ghost use Prim.Native.Nat.{_+_, _≤_};
 ghost use lib.Dec.{leb};
-ghost use lib.ListN.{length};
-ghost use Rattle.lists.specs.Tests.{any, every, filter};
-ghost use Rattle.judging.specs.Ranges.{inside, clear, pagesFrom};
-ghost use Rattle.judge_tables.specs.Rows.{rowAt, rows, putRow, firstIs, secondIs, pairIs, allAre, around, clearOf, stays, noClash, alone};
+ghost use Rattle.lists.specs.Tests.{any, every};
+ghost use Rattle.judge_rules.specs.Ranges.{inside, clear, pagesFrom};
+ghost use Rattle.judge_tables.specs.Rows.{rowAt, rows, putRow, begins, secondIs, pairIs, allAre, around, clearOf, stays, noClash, noneClash, alone, noHandleTwice};
+ghost use Rattle.judge_tables.specs.Promises.{HasRows, Keeps, Leaves};
 
 pub struct Row {
     pub first: u64,
     pub second: u64,
     pub third: u64,
 }
+
+impl Row {
+    pub const NUMBERS: usize = 3;
+}
+
+const LAST_ADDRESS: u64 = 0xffff_ffff_ffff_ffff;
 
 // The address x is one of the n from a on.
 pub fn is_inside(a: u64, n: u64, x: u64) -> bool
@@ -55,13 +62,13 @@ pub fn is_within(a: u64, n: u64, b: u64, m: u64) -> bool
 }
 
 fn read(t: &[u64], i: usize) -> Row
-    requires { ⌜ 3 * i + 3 ≤ length (now t) ⌝ }
+    requires { ⌜ HasRows (i + 1) (now t) ⌝ }
     ensures { λ r. ⌜ r ≡ rowAt (now (t .entry)) i ⌝ }
 {
     Row {
-        first: t[3 * i],
-        second: t[3 * i + 1],
-        third: t[3 * i + 2],
+        first: t[Row::NUMBERS * i],
+        second: t[Row::NUMBERS * i + 1],
+        third: t[Row::NUMBERS * i + 2],
     }
 }
 
@@ -89,8 +96,8 @@ fn is_all(w: Row, x: u64, y: u64, z: u64) -> bool
 
 // A row has x as its first number.
 pub fn has(t: &[u64], count: usize, x: u64) -> bool
-    requires { ⌜ 3 * count ≤ length (now t) ⌝ }
-    ensures { λ r. ⌜ r ≡ any (firstIs x) (rows count (now (t .entry))) ⌝ }
+    requires { ⌜ HasRows count (now t) ⌝ }
+    ensures { λ r. ⌜ r ≡ begins (rows count (now (t .entry))) x ⌝ }
 {
     let mut i = count;
     while 0 < i {
@@ -105,7 +112,7 @@ pub fn has(t: &[u64], count: usize, x: u64) -> bool
 
 // A row has x as its second number.
 pub fn has_second(t: &[u64], count: usize, x: u64) -> bool
-    requires { ⌜ 3 * count ≤ length (now t) ⌝ }
+    requires { ⌜ HasRows count (now t) ⌝ }
     ensures { λ r. ⌜ r ≡ any (secondIs x) (rows count (now (t .entry))) ⌝ }
 {
     let mut i = count;
@@ -121,7 +128,7 @@ pub fn has_second(t: &[u64], count: usize, x: u64) -> bool
 
 // A row begins with these two numbers.
 pub fn has_both(t: &[u64], count: usize, x: u64, y: u64) -> bool
-    requires { ⌜ 3 * count ≤ length (now t) ⌝ }
+    requires { ⌜ HasRows count (now t) ⌝ }
     ensures { λ r. ⌜ r ≡ any (pairIs x y) (rows count (now (t .entry))) ⌝ }
 {
     let mut i = count;
@@ -137,7 +144,7 @@ pub fn has_both(t: &[u64], count: usize, x: u64, y: u64) -> bool
 
 // A row has these three numbers.
 pub fn has_all(t: &[u64], count: usize, x: u64, y: u64, z: u64) -> bool
-    requires { ⌜ 3 * count ≤ length (now t) ⌝ }
+    requires { ⌜ HasRows count (now t) ⌝ }
     ensures { λ r. ⌜ r ≡ any (allAre x y z) (rows count (now (t .entry))) ⌝ }
 {
     let mut i = count;
@@ -153,7 +160,7 @@ pub fn has_all(t: &[u64], count: usize, x: u64, y: u64, z: u64) -> bool
 
 // The n addresses from a on are among those of one row: its second number of them from its first on.
 pub fn in_one(t: &[u64], count: usize, a: u64, n: u64) -> bool
-    requires { ⌜ 3 * count ≤ length (now t) ⌝ }
+    requires { ⌜ HasRows count (now t) ⌝ }
     ensures { λ r. ⌜ r ≡ any (around a n) (rows count (now (t .entry))) ⌝ }
 {
     let mut i = count;
@@ -169,7 +176,7 @@ pub fn in_one(t: &[u64], count: usize, a: u64, n: u64) -> bool
 
 // None of the n addresses from a on is one of a row's.
 pub fn all_clear(t: &[u64], count: usize, a: u64, n: u64) -> bool
-    requires { ⌜ 3 * count ≤ length (now t) ⌝ }
+    requires { ⌜ HasRows count (now t) ⌝ }
     ensures { λ r. ⌜ r ≡ every (clearOf a n) (rows count (now (t .entry))) ⌝ }
 {
     let mut i = count;
@@ -192,7 +199,7 @@ fn is_outside(w: Row, a: u64, n: u64) -> bool
 
 // No row's first number is one of the n from a on.
 pub fn none_inside(t: &[u64], count: usize, a: u64, n: u64) -> bool
-    requires { ⌜ 3 * count ≤ length (now t) ⌝ }
+    requires { ⌜ HasRows count (now t) ⌝ }
     ensures { λ r. ⌜ r ≡ every (stays a n) (rows count (now (t .entry))) ⌝ }
 {
     let mut i = count;
@@ -208,8 +215,8 @@ pub fn none_inside(t: &[u64], count: usize, a: u64, n: u64) -> bool
 
 // Each of k pages from a on begins a row. A page that would begin beyond the last address begins none.
 pub fn all_mapped(t: &[u64], count: usize, a: u64, page: u64, k: u64) -> bool
-    requires { ⌜ 3 * count ≤ length (now t) ⌝ }
-    ensures { λ r. ⌜ r ≡ every (λ x. any (firstIs x) (rows count (now (t .entry)))) (pagesFrom page a k) ⌝ }
+    requires { ⌜ HasRows count (now t) ⌝ }
+    ensures { λ r. ⌜ r ≡ every (begins (rows count (now (t .entry)))) (pagesFrom page a k) ⌝ }
 {
     let mut x = a;
     let mut i = k;
@@ -218,7 +225,7 @@ pub fn all_mapped(t: &[u64], count: usize, a: u64, page: u64, k: u64) -> bool
             return false;
         }
         i -= 1;
-        if 18446744073709551615 - x < page {
+        if LAST_ADDRESS - x < page {
             return i == 0;
         }
         x += page;
@@ -228,7 +235,7 @@ pub fn all_mapped(t: &[u64], count: usize, a: u64, page: u64, k: u64) -> bool
 
 // The row is that of the page at `at`, has another handle, or lies in no buffer.
 fn no_clash(w: Row, live: &[u64], lives: usize, a: u64, n: u64, at: u64, handle: u64) -> bool
-    requires { ⌜ 3 * lives ≤ length (now live) ⌝ }
+    requires { ⌜ HasRows lives (now live) ⌝ }
     ensures { λ r. ⌜ r ≡ noClash (rows lives (now (live .entry))) a n at handle w ⌝ }
 {
     if w.second != handle {
@@ -253,8 +260,8 @@ fn none_clash(
     at: u64,
     handle: u64,
 ) -> bool
-    requires { ⌜ (3 * count ≤ length (now t)) × (3 * lives ≤ length (now live)) ⌝ }
-    ensures { λ r. ⌜ r ≡ every (noClash (rows lives (now (live .entry))) a n at handle) (rows count (now (t .entry))) ⌝ }
+    requires { ⌜ HasRows count (now t) × HasRows lives (now live) ⌝ }
+    ensures { λ r. ⌜ r ≡ noneClash (rows count (now (t .entry))) (rows lives (now (live .entry))) a n at handle ⌝ }
 {
     let mut i = count;
     while 0 < i {
@@ -268,7 +275,7 @@ fn none_clash(
 }
 
 fn is_alone(p: Row, t: &[u64], count: usize, live: &[u64], lives: usize, a: u64, n: u64) -> bool
-    requires { ⌜ (3 * count ≤ length (now t)) × (3 * lives ≤ length (now live)) ⌝ }
+    requires { ⌜ HasRows count (now t) × HasRows lives (now live) ⌝ }
     ensures { λ r. ⌜ r ≡ alone (rows count (now (t .entry))) (rows lives (now (live .entry))) a n p ⌝ }
 {
     if !is_inside(a, n, p.first) {
@@ -279,8 +286,8 @@ fn is_alone(p: Row, t: &[u64], count: usize, live: &[u64], lives: usize, a: u64,
 
 // No mapped page among the n addresses from a on has the handle of another there or in a live buffer.
 pub fn no_handle_twice(t: &[u64], count: usize, live: &[u64], lives: usize, a: u64, n: u64) -> bool
-    requires { ⌜ (3 * count ≤ length (now t)) × (3 * lives ≤ length (now live)) ⌝ }
-    ensures { λ r. ⌜ r ≡ every (alone (rows count (now (t .entry))) (rows lives (now (live .entry))) a n) (rows count (now (t .entry))) ⌝ }
+    requires { ⌜ HasRows count (now t) × HasRows lives (now live) ⌝ }
+    ensures { λ r. ⌜ r ≡ noHandleTwice (rows count (now (t .entry))) (rows lives (now (live .entry))) a n ⌝ }
 {
     let mut i = count;
     while 0 < i {
@@ -294,10 +301,10 @@ pub fn no_handle_twice(t: &[u64], count: usize, live: &[u64], lives: usize, a: u
 }
 
 pub fn put(t: &mut [u64], i: usize, w: Row)
-    requires { ⌜ 3 * i + 3 ≤ length (now t) ⌝ }
+    requires { ⌜ HasRows (i + 1) (now t) ⌝ }
     ensures { λ _. ⌜ now (t .exit) ≡ putRow (now (t .entry)) i w ⌝ }
 {
-    let k = 3 * i;
+    let k = Row::NUMBERS * i;
     t[k] = w.first;
     t[k + 1] = w.second;
     t[k + 2] = w.third;
@@ -305,8 +312,8 @@ pub fn put(t: &mut [u64], i: usize, w: Row)
 
 // The row at place i goes to place j, where its first number is none of the n from a on; the next free place.
 fn keep(t: &mut [u64], i: usize, j: usize, a: u64, n: u64) -> usize
-    requires { ⌜ (j ≤ i) × (3 * i + 3 ≤ length (now t)) ⌝ }
-    ensures { λ r. ⌜ (r ≡ cond (stays a n (rowAt (now (t .entry)) i)) (j + 1) j) × (now (t .exit) ≡ cond (stays a n (rowAt (now (t .entry)) i)) (putRow (now (t .entry)) j (rowAt (now (t .entry)) i)) (now (t .entry))) ⌝ }
+    requires { ⌜ (j ≤ i) × HasRows (i + 1) (now t) ⌝ }
+    ensures { λ r. ⌜ Keeps (now (t .entry)) i j a n r (now (t .exit)) ⌝ }
 {
     let w = read(t, i);
     if is_outside(w, a, n) {
@@ -318,8 +325,8 @@ fn keep(t: &mut [u64], i: usize, j: usize, a: u64, n: u64) -> usize
 
 // The rows whose first number is none of the n from a on, in their order; how many they are.
 pub fn without(t: &mut [u64], count: usize, a: u64, n: u64) -> usize
-    requires { ⌜ 3 * count ≤ length (now t) ⌝ }
-    ensures { λ r. ⌜ (r ≤ count) × (rows r (now (t .exit)) ≡ filter (stays a n) (rows count (now (t .entry)))) ⌝ }
+    requires { ⌜ HasRows count (now t) ⌝ }
+    ensures { λ r. ⌜ Leaves (now (t .entry)) count a n r (now (t .exit)) ⌝ }
 {
     let mut j: usize = 0;
     let mut i: usize = 0;

@@ -1,9 +1,9 @@
 -- What the counts bound: ranges in the tables end where addresses end and have no more bytes than the roots, and there are no more pages to move than
--- active pages. Assumes nothing.
+-- active pages.
 use mathlib.Core.Path.{_≡_, ap}
 use mathlib.Core.Logic.{⊎-elim}
 use mathlib.Core.List.{List, [], _∷_}
-use Prim.Native.Nat.{ℕ, zero, suc, _+_, _*_, _≤_, _<_, _%_, _^_}
+use Prim.Native.Nat.{ℕ, zero, suc, _+_, _-_, _*_, _≤_, _<_, _%_}
 use native.Mathlib.Omega.{arith}
 use native.Mathlib.Nat.{suc-mul, zero-mul, mul-le-mul}
 use lib.ListN.{length}
@@ -12,6 +12,7 @@ use Rattle.lists.specs.Order.{Rises, without}
 use Rattle.lists.specs.Walks.{sum}
 use Rattle.lists.proofs.Tests.{cases-eq, all-implies}
 use Rattle.lists.proofs.Members.{all-members, member-all, member-sum, sum-member, rises-without, sum-without, length-without}
+use Rattle.tables.specs.Bounds.{END, ROOTS, SPANS}
 use Rattle.tables.specs.Values.{Tables}
 use Rattle.tables.specs.InsertFree.{upto, bytes}
 use Rattle.tables.specs.NewPages.{at}
@@ -59,36 +60,36 @@ sum-same n (r ∷ l) = omega (arith, suc-mul (length l) n, sum-same n l)
 
 -- What the code that inserts a range as free leans on.
 pub record Bounds (a n : ℕ) (l : List FreeRegion) : Type 0 where
-  pub ends : All (λ q. upto q ≤ 2 ^ 63) l
-  pub rangeEnd : a + n ≤ 2 ^ 63
-  pub sizes : n + bytes l ≤ 2 ^ 63
-  pub few : length l ≤ 127
+  pub ends : All (λ q. upto q ≤ END) l
+  pub rangeEnd : a + n ≤ END
+  pub sizes : n + bytes l ≤ END
+  pub few : length l ≤ SPANS - 1
 
 module _ {lost hand bare : ℕ → ℕ} {t : Tables} (s : Sound lost hand bare t) where
   -- every free region is of a root
-  pub free-ends : All (λ q. upto q ≤ 2 ^ 63) (t .free)
+  pub free-ends : All (λ q. upto q ≤ END) (t .free)
   free-ends = all-members _ (t .free) one
     where
-      one : (q : FreeRegion) → Member q (t .free) → upto q ≤ 2 ^ 63
+      one : (q : FreeRegion) → Member q (t .free) → upto q ≤ END
       one q m =
           sound-range
           (sound-free s {hand′ = λ x. coverFree (t .free) x + hand x} {bare′ = λ x. coverFree (t .free) x + bare x} [] tt tt (λ x. omega arith)
           (λ x h. omega arith) (λ i. omega arith) tt)
-          (q .start .0) (q .size) (member-all (λ r. WholeRange (t .page) (r .start .0) (r .size)) q (t .free) m (s .free) .size .positive)
+          (q .start .0) (q .size) (member-all (λ r. WholeRange (t .fields .page) (r .start .0) (r .size)) q (t .free) m (s .free) .size .positive)
           (λ x. omega (arith, sum-member (λ r. within (r .start .0) (r .size) x) q (t .free) m))
 
   -- a range in hand and the free regions share no address
-  pub free-sizes : (a n : ℕ) → a + n ≤ 2 ^ 63 → ((x : ℕ) → within a n x ≤ hand x) → length (t .roots) ≤ 16 → n + bytes (t .free) ≤ 2 ^ 63
+  pub free-sizes : (a n : ℕ) → a + n ≤ END → ((x : ℕ) → within a n x ≤ hand x) → length (t .roots) ≤ ROOTS → n + bytes (t .free) ≤ END
   free-sizes a n fits le few =
       omega (
         arith,
-        sizes-most (λ r. r .start .0) (λ r. r .size) (λ r. r .0) (λ r. t .va) (2 ^ 63) a n (t .free) (t .roots) fits free-ends
+        sizes-most (λ r. r .start .0) (λ r. r .size) (λ r. r .0) (λ r. t .fields .va) END a n (t .free) (t .roots) fits free-ends
             (all-implies _ _ (λ r w. w .1) (t .roots) (s .roots)) (λ x. omega (arith, le x, s .covered x)),
-        sum-same (t .va) (t .roots),
+        sum-same (t .fields .va) (t .roots),
         most,
       )
     where
-      most : length (t .roots) * t .va ≤ 16 * t .va
+      most : length (t .roots) * t .fields .va ≤ ROOTS * t .fields .va
       most = mul-le-mul few (omega arith)
 
 pub inserting-bounds : {lost hand bare : ℕ → ℕ} {p f a n : ℕ} {l : List FreeRegion} {t : Tables} → Inserting lost hand bare p f a n l t → Bounds a n (t .free)

@@ -1,4 +1,4 @@
--- Cleanup: each zombie whose event is complete comes into the hand and goes into the holes, so zombies and holes together do not grow. Assumes nothing.
+-- Cleanup: each zombie whose event is complete comes into the hand and goes into the holes, so zombies and holes together do not grow.
 use mathlib.Core.Path.{_≡_}
 use Prim.Native.Nat.{ℕ, zero, suc, _+_, _<_}
 use native.Mathlib.Omega.{arith}
@@ -6,7 +6,8 @@ use lib.ListN.{length, getD}
 use Rattle.lists.specs.Places.{swapOut}
 use Rattle.lists.proofs.Tests.{all-at}
 use Rattle.lists.proofs.Swap.{sum-swapOut, all-swapOut, length-swapOut}
-use Rattle.tables.specs.Values.{Tables, zombie, withZombies, withHoles}
+use Rattle.tables.specs.Bounds.{HOLES}
+use Rattle.tables.specs.Values.{Tables, withZombies, withHoles, emptyZombie}
 use Rattle.tables.specs.InsertHole.{insertHole}
 use Rattle.tables.specs.Cleanup.{clean, walk, cleanup}
 use Rattle.keeping.specs.Cover.{within}
@@ -24,17 +25,17 @@ module _ (lost : ℕ → ℕ) (p f c : ℕ) where
   -- a zombie with the range from `a` of `n` bytes is out of its table, `m` are left
   record Out (a n m : ℕ) (t : Tables) : Type 0 where
     sound : Sound lost (within a n) none t
-    range : WholeRange (t .page) a n
+    range : WholeRange (t .fields .page) a n
     ceilings : Ceilings t
     few : Few 0 c t
     known : Known p f t
     left : length (t .zombies) ≡ m
-    room : length (t .holes) + m < 512
+    room : length (t .holes) + m < HOLES
 
   taken-out : (i m : ℕ) (t : Tables) → Cleaned t → length (t .zombies) ≡ suc m → i < suc m →
-      Out (getD (t .zombies) i (zombie 0 0 0) .start .0) (getD (t .zombies) i (zombie 0 0 0) .size) m (withZombies (swapOut i (t .zombies)) t)
+      Out (getD (t .zombies) i emptyZombie .start .0) (getD (t .zombies) i emptyZombie .size) m (withZombies (swapOut i (t .zombies)) t)
   taken-out i m t q e h =
-      let d = zombie 0 0 0 in
+      let d = emptyZombie in
       let z = getD (t .zombies) i d in
       let s = q .0 .sound in
       let k = q .0 .ceilings in
@@ -73,10 +74,10 @@ module _ (lost : ℕ → ℕ) (p f c : ℕ) where
   Cleaning m t = Cleaned t × (length (t .zombies) ≡ m)
 
   cleans : (i m : ℕ) (u : Tables) → Cleaning (suc m) u → i < suc m →
-      Holds (λ t. t ≡ u) (clean i (getD (u .zombies) i (zombie 0 0 0))) (λ _. Cleaning m) (Left lost)
+      Holds (λ t. t ≡ u) (clean i (getD (u .zombies) i emptyZombie)) (λ _. Cleaning m) (Left lost)
   unfolding clean
   cleans i m u q h =
-      let z = getD (u .zombies) i (zombie 0 0 0) in
+      let z = getD (u .zombies) i emptyZombie in
       holds-then (λ _. Out (z .start .0) (z .size) m) (holds-change _ (λ t e. rw e (taken-out i m u (q .0) (q .1) h)))
       (λ _. holds-then (λ _. Out (z .start .0) (z .size) m) (holds-try (drives-unmap (z .start .0) (z .size)) (λ t o. tt))
       (λ _. holds-change _ (λ t o. (put-in (z .start .0) (z .size) m t o, o .left))))
@@ -86,7 +87,7 @@ module _ (lost : ℕ → ℕ) (p f c : ℕ) where
   walks zero i = holds-from (λ t q. q .0) (holds-give tt)
   walks (suc n) i =
       holds-looked
-      (λ u q. holds-then (λ _ t. t ≡ u) (holds-isComplete (getD (u .zombies) i (zombie 0 0 0) .id .0) (λ t e. tt))
+      (λ u q. holds-then (λ _ t. t ≡ u) (holds-isComplete (getD (u .zombies) i emptyZombie .id .0) (λ t e. tt))
       (λ b. holds-cond b
       (λ _. holds-then (λ _. Cleaning (i + n)) (cleans i (i + n) u (q .0, omega (arith, q .1)) (omega arith)) (λ _. walks n i))
       (λ _. holds-from (λ t e. rw e (q .0, omega (arith, q .1))) (walks n (i + 1)))))

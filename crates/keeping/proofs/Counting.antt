@@ -1,5 +1,5 @@
 -- What counts say of a list: a key that counts 0 is no element's, no key stands in it twice where each counts at most once, no two of its ranges have an
--- address in common where each address is covered at most once, and two rising lists in which every number counts the same are the same. Assumes nothing.
+-- address in common where each address is covered at most once, and two rising lists in which every number counts the same are the same.
 use mathlib.Core.Path.{_≡_, refl, ap, sym, _∙_}
 use mathlib.Core.Logic.{_⊎_, inl, inr, ⊎-elim}
 use mathlib.Core.Bool.{Bool, true, false, not, false≢true}

@@ -1,4 +1,4 @@
--- Laws of `within` and `equal`. Assumes nothing.
+-- Laws of `within` and `equal`.
 use mathlib.Core.Path.{_≡_}
 use mathlib.Core.Logic.{_⊎_, inl, inr}
 use Prim.Native.Nat.{ℕ, _+_, _-_, _≤_, _<_}

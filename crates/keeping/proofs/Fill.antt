@@ -1,5 +1,5 @@
 -- Fill. Where the free bytes fall short, the pages made become a region, with what it merges with; every other region is pulled whole, and what they
--- give is put right behind. Where the free bytes suffice, they fill the range. Assumes nothing.
+-- give is put right behind. Where the free bytes suffice, they fill the range.
 use mathlib.Core.Path.{_≡_, refl}
 use mathlib.Core.Logic.{_⊎_, inl, inr, ⊎-elim}
 use mathlib.Core.List.{List, [], _∷_}
@@ -12,6 +12,7 @@ use lib.ListN.{length}
 use Rattle.lists.specs.Tests.{Member}
 use Rattle.lists.proofs.Walks.{sum-some}
 use Rattle.lists.proofs.Members.{member-all, sum-without, sum-member}
+use Rattle.tables.specs.Bounds.{SPANS}
 use Rattle.tables.specs.Values.{Tables, withFree}
 use Rattle.tables.specs.Steps.{_>>=_, _>>_, give}
 use Rattle.tables.specs.Driver.{must, access}
@@ -42,8 +43,8 @@ pub record Newly (lost : ℕ → ℕ) (p f : ℕ) (o : Room) (r : FreeRegion) (t
   pub member : Member r (t .free)
   pub stream : r .stream ≡ o .stream
   pub least : (0 < o .missing) × (o .missing ≤ r .size)
-  pub few : Few 0 128 t
-  pub room : (r .size ≡ o .missing) ⊎ (length (t .free) + length (t .live) ≤ 127)
+  pub few : Few 0 SPANS t
+  pub room : (r .size ≡ o .missing) ⊎ (length (t .free) + length (t .live) ≤ SPANS - 1)
   pub known : Known p (f + o .missing) t
   pub ends : o .missing < o .size → upto r ≡ o .start + o .missing
   pub pullable : Pullable (withFree (withoutFree (from r) (t .free)) t)
@@ -54,10 +55,10 @@ pub record Filled (lost : ℕ → ℕ) (n s d : ℕ) (r : FreeRegion) (t : Table
   pub sound : Sound (λ x. lost x + within dropped d x) S.none S.none t
   pub member : Member r (t .free)
   pub stream : r .stream ≡ s
-  pub size : Whole (t .page) n
+  pub size : Whole (t .fields .page) n
   pub most : n ≤ r .size
-  pub few : Few 0 128 t
-  pub room : (r .size ≡ n) ⊎ (length (t .free) + length (t .live) ≤ 127)
+  pub few : Few 0 SPANS t
+  pub room : (r .size ≡ n) ⊎ (length (t .free) + length (t .live) ≤ SPANS - 1)
 
 module _ (lost : ℕ → ℕ) (p f : ℕ) (o : Room) where
   abbrev pub Ready : Option FreeRegion → Tables → Type 0
@@ -142,10 +143,10 @@ module _ (lost : ℕ → ℕ) (p f : ℕ) (o : Room) (g : Measured p f o) where
     all-range = record { start = rw here (g .start); size = g .size }
 
     pub all-due : (u : Tables) → Made lost p f o u →
-        Pulling lost (λ x. S.none x + within end (o .size) x) S.none p (o .size) 127 [] (pullOrder (o .stream) (u .free)) u
+        Pulling lost (λ x. S.none x + within end (o .size) x) S.none p (o .size) (SPANS - 1) [] (pullOrder (o .stream) (u .free)) u
     all-due u w =
         let made : end - o .start ≡ 0 = omega arith in
-        pulling-all lost (λ x. S.none x + within end (o .size) x) p (o .stream) (o .size) 127 u
+        pulling-all lost (λ x. S.none x + within end (o .size) x) p (o .stream) (o .size) (SPANS - 1) u
         (sound-as (w .sound) (λ x. rw here (omega arith)) (λ x. rw made (within-none (o .start) x)))
         (w .making .few) (w .making .known .page) (g .size .aligned) (w .making .pullable)
         (omega (arith, w .making .known .free, g .rest))
@@ -155,7 +156,7 @@ module _ (lost : ℕ → ℕ) (p f : ℕ) (o : Room) (g : Measured p f o) where
     fills-all =
         holds-looked (λ u w.
         holds-from (λ t e. rw e (all-due u w))
-        (holds-to filled-all (pulls-in lost S.none p (o .size) 127 [] (u .free) o all-range (inl (omega arith)))))
+        (holds-to filled-all (pulls-in lost S.none p (o .size) (SPANS - 1) [] (u .free) o all-range (inl (omega arith)))))
 
 -- Pages were missing: as many bytes as the new region merged with need not be pulled, and are dropped at the end of the range.
 module _ (lost : ℕ → ℕ) (p f : ℕ) (o : Room) (g : Measured p f o) (r : FreeRegion) where
@@ -199,7 +200,7 @@ module _ (lost : ℕ → ℕ) (p f : ℕ) (o : Room) (g : Measured p f o) (r : F
 
     aligned : lacks % p ≡ 0
     aligned =
-        let whole = member-all (λ q. WholeRange (u .page) (from q) (q .size)) r (u .free) (w .member) (w .sound .free) in
+        let whole = member-all (λ q. WholeRange (u .fields .page) (from q) (q .size)) r (u .free) (w .member) (w .sound .free) in
         aligned-sub p (o .size) (r .size) (omega arith) (g .size .aligned) (rw (w .known .page) at (whole .size .aligned))
 
     -- the others have just what lacks
@@ -209,10 +210,10 @@ module _ (lost : ℕ → ℕ) (p f : ℕ) (o : Room) (g : Measured p f o) (r : F
     others-some : 0 < length others
     others-some = sum-some (λ q. q .size) others (omega (arith, others-all))
 
-    pub behind-due : Pulling lost (λ x. left x + within place lacks x) S.none p lacks 128 (r ∷ []) (pullOrder (o .stream) others) u
+    pub behind-due : Pulling lost (λ x. left x + within place lacks x) S.none p lacks SPANS (r ∷ []) (pullOrder (o .stream) others) u
     behind-due =
         let size : o .size - o .missing - lacks ≡ extra = omega (arith, w .least .1) in
-        pulling-others lost _ p (o .stream) lacks 128 u
+        pulling-others lost _ p (o .stream) lacks SPANS u
         (sound-as (w .sound) (λ x. rw size at (cut x)) (λ x. refl))
         (w .few) (w .known .page) aligned r (w .member) (w .pullable) (omega (arith, others-all))
       where
@@ -243,13 +244,13 @@ module _ (lost : ℕ → ℕ) (p f : ℕ) (o : Room) (g : Measured p f o) (r : F
         }
 
     -- every other region is pulled whole
-    pub behind-spare : Spare lacks 128 others
+    pub behind-spare : Spare lacks SPANS others
     behind-spare = inr (others-all, (others-some, omega arith))
 
     fills-behind : Holds (λ t. t ≡ u) (pullIn o lacks others) (Filled lost (o .size) (o .stream) extra) (Left lost)
     fills-behind =
         holds-from (λ t e. rw e behind-due)
-        (holds-to filled-behind (pulls-in lost left p lacks 128 (r ∷ []) others o behind-range behind-spare))
+        (holds-to filled-behind (pulls-in lost left p lacks SPANS (r ∷ []) others o behind-range behind-spare))
 
   -- What is dropped is as much as the new region merged with.
   pub fills-rest : Holds (Newly lost p f o r) (fill o (some r)) (Filled lost (o .size) (o .stream) extra) (Left lost)

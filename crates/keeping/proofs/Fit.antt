@@ -1,5 +1,5 @@
 -- Fit: the region chosen is one of the free regions that are large enough, and to make it this stream's changes neither the addresses, the sizes nor
--- the ids. Assumes nothing.
+-- the ids.
 use mathlib.Core.Path.{_≡_, refl, _∙_}
 use mathlib.Core.Logic.{inl, inr}
 use mathlib.Core.Bool.{Bool, true, false, cond}
@@ -16,6 +16,7 @@ use Rattle.lists.proofs.Walks.{sum-equal}
 use Rattle.lists.proofs.Maps.{all-map, member-map, sum-map, rises-map}
 use Rattle.lists.proofs.Tests.{all-implies}
 use Rattle.lists.proofs.Members.{member-all, all-members, member-filter, member-least}
+use Rattle.tables.specs.Bounds.{SPANS}
 use Rattle.tables.specs.Values.{Tables, withFree}
 use Rattle.tables.specs.InsertFree.{from}
 use Rattle.tables.specs.Pull.{ownOf}
@@ -79,14 +80,14 @@ module _ (s : ℕ) (r : FreeRegion) where
   taken-spans : {lost hand bare : ℕ → ℕ} {t : Tables} → Sound lost hand bare t → Spans hand bare hand bare (map taken (t .free)) (t .live) t
   taken-spans {t = t} h =
       record {
-        free = all-taken (λ q. WholeRange (t .page) (from q) (q .size)) (t .free) (λ q w. w) (h .free);
+        free = all-taken (λ q. WholeRange (t .fields .page) (from q) (q .size)) (t .free) (λ q w. w) (h .free);
         live = h .live;
         freeRises = rises-map taken from from 0 (t .free) (λ q. taken-keeps (λ z. from z ≡ from q) q refl refl) (h .freeRises);
         liveRises = h .liveRises;
         covered = λ x. rw (sum-taken (λ q. within (from q) (q .size) x) (t .free) (λ q. refl));
         bared = λ x _. rw (sum-taken (λ q. within (from q) (q .size) x) (t .free) (λ q. refl));
         ids = λ i. omega (arith, h .idsOnce i, sum-taken (λ q. equal (q .id .0) i) (t .free) (λ q. refl));
-        freeIds = all-taken (λ q. q .id .0 < t .counter) (t .free) (λ q w. w) (h .freeIds);
+        freeIds = all-taken (λ q. q .id .0 < t .fields .counter) (t .free) (λ q w. w) (h .freeIds);
       }
 
   member-taken : (l : List FreeRegion) → Member r l → Member (onStream s r) (map taken l)
@@ -97,7 +98,7 @@ module _ (s : ℕ) (r : FreeRegion) where
       let e : length (map taken (t .free)) ≡ length (t .free) = length-map (t .free) taken in (
         record {
           sound = sound-spans (k .sound) (taken-spans (k .sound));
-          ceilings = few-ceilings {c = 128} (omega arith) (few-spans (map taken (t .free)) (t .live) (ceilings-few (k .ceilings)) (omega (arith, k .ceilings .spans)));
+          ceilings = few-ceilings {c = SPANS} (omega arith) (few-spans (map taken (t .free)) (t .live) (ceilings-few (k .ceilings)) (omega (arith, k .ceilings .spans)));
         },
         (
           few-spans (map taken (t .free)) (t .live) w (omega (arith, w .spans)),

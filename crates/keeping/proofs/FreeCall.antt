@@ -1,4 +1,4 @@
--- Free: a live buffer that is taken out leaves its range in hand and its pages bare, from where insert free puts both back. Assumes nothing.
+-- Free: a live buffer that is taken out leaves its range in hand and its pages bare, from where insert free puts both back.
 use mathlib.Core.Path.{_≡_, refl}
 use mathlib.Core.List.{List}
 use Prim.Native.Nat.{ℕ, _+_}
@@ -35,7 +35,7 @@ module _ {lost : ℕ → ℕ} (b : LiveBuffer) (t : Tables) (k : Kept lost t) (m
   out-spans =
       record {
         free = k .sound .free;
-        live = all-without (λ c. c .start .0) (λ c. WholeRange (t .page) (c .start .0) (c .size)) (b .start .0) (t .live) (k .sound .live);
+        live = all-without (λ c. c .start .0) (λ c. WholeRange (t .fields .page) (c .start .0) (c .size)) (b .start .0) (t .live) (k .sound .live);
         freeRises = k .sound .freeRises;
         liveRises = rises-without (λ c. c .start .0) (b .start .0) 0 (t .live) (k .sound .liveRises);
         covered = λ x. omega (arith, covers x);
@@ -44,12 +44,12 @@ module _ {lost : ℕ → ℕ} (b : LiveBuffer) (t : Tables) (k : Kept lost t) (m
         freeIds = k .sound .freeIds;
       }
 
-  pub inserting : Inserting lost none none (t .page) (bytes (t .free)) (b .start .0) (b .size) (t .free) (withLive (others b t) t)
+  pub inserting : Inserting lost none none (t .fields .page) (bytes (t .free)) (b .start .0) (b .size) (t .free) (withLive (others b t) t)
   inserting =
       let fewer = length-without (λ c. c .start .0) 0 b (t .live) (k .sound .liveRises) m in
       record {
         sound = sound-spans (k .sound) out-spans;
-        range = member-all (λ c. WholeRange (t .page) (c .start .0) (c .size)) b (t .live) m (k .sound .live);
+        range = member-all (λ c. WholeRange (t .fields .page) (c .start .0) (c .size)) b (t .live) m (k .sound .live);
         few = few-spans (t .free) (others b t) (ceilings-few (k .ceilings)) (omega (arith, fewer, k .ceilings .spans));
         known = record { page = refl; free = refl };
         list = refl;
@@ -59,8 +59,8 @@ pub frees : (lost : ℕ → ℕ) (b : LiveBuffer) → Holds (λ t. Kept lost t �
 unfolding freeSteps
 frees lost b =
     holds-named
-    (λ u h. holds-then (λ _. Inserting lost none none (u .page) (bytes (u .free)) (b .start .0) (b .size) (u .free))
+    (λ u h. holds-then (λ _. Inserting lost none none (u .fields .page) (bytes (u .free)) (b .start .0) (b .size) (u .free))
     (holds-change (λ t. withLive (others b t) t) (λ t e. rw e (inserting b u (h .0) (h .1))))
-    (λ _. holds-then (Inserted lost none none (u .page) (bytes (u .free)) (b .start .0) (b .size) (b .stream) (u .free))
-    (inserts-free lost none none (u .page) (bytes (u .free)) (b .start .0) (b .size) (b .stream) (u .free))
+    (λ _. holds-then (Inserted lost none none (u .fields .page) (bytes (u .free)) (b .start .0) (b .size) (b .stream) (u .free))
+    (inserts-free lost none none (u .fields .page) (bytes (u .free)) (b .start .0) (b .size) (b .stream) (u .free))
     (λ r. holds-from (λ t i. record { sound = i .sound; ceilings = few-ceilings (omega arith) (i .few) }) (holds-give (Freed (b .size) (b .stream))))))

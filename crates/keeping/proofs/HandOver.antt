@@ -1,5 +1,5 @@
 -- Handing over: the region's first bytes become a live buffer and a rest stays free, so that together they cover what the region covered.
--- Nothing else starts in the region, so both have their place by address. Assumes nothing.
+-- Nothing else starts in the region, so both have their place by address.
 use mathlib.Core.Path.{_≡_}
 use mathlib.Core.Logic.{⊎-elim}
 use mathlib.Core.List.{List}
@@ -10,6 +10,7 @@ use Rattle.lists.specs.Tests.{All}
 use Rattle.lists.specs.Order.{put}
 use Rattle.lists.proofs.Order.{length-put, sum-put, all-put}
 use Rattle.lists.proofs.Members.{member-all, all-without, rises-without, sum-without, length-without, rises-put}
+use Rattle.tables.specs.Bounds.{SPANS}
 use Rattle.tables.specs.Values.{Tables, buffer, withFree, withLive}
 use Rattle.tables.specs.Steps.{_>>=_}
 use Rattle.tables.specs.InsertFree.{from, putRest, withoutFree}
@@ -38,25 +39,25 @@ abbrev buffers : ℕ → ℕ → FreeRegion → Tables → List LiveBuffer
 buffers n s r t = put (λ b. b .start .0) (buffer (from r) n s) (t .live)
 
 module _ {lost : ℕ → ℕ} (n s : ℕ) (r : FreeRegion) (t : Tables) (h : Handing lost n r t) where
-  range : WholeRange (t .page) (from r) (r .size)
-  range = member-all (λ q. WholeRange (t .page) (q .start .0) (q .size)) r (t .free) (h .member) (h .sound .free)
+  range : WholeRange (t .fields .page) (from r) (r .size)
+  range = member-all (λ q. WholeRange (t .fields .page) (q .start .0) (q .size)) r (t .free) (h .member) (h .sound .free)
 
-  others-whole : All (λ q. WholeRange (t .page) (from q) (q .size)) (others r t)
-  others-whole = all-without from (λ q. WholeRange (t .page) (from q) (q .size)) (from r) (t .free) (h .sound .free)
+  others-whole : All (λ q. WholeRange (t .fields .page) (from q) (q .size)) (others r t)
+  others-whole = all-without from (λ q. WholeRange (t .fields .page) (from q) (q .size)) (from r) (t .free) (h .sound .free)
 
-  rest-whole : n < r .size → WholeRange (t .page) (from r + n) (r .size - n)
+  rest-whole : n < r .size → WholeRange (t .fields .page) (from r + n) (r .size - n)
   rest-whole e = whole-upper n range (h .size .aligned) e
 
   -- no other region starts where the rest does
   rest-new : n < r .size → All (λ q. from q ≡ from r + n → ⊥) (others r t)
   rest-new e =
-      none-starts from (λ q. q .size) (t .page) (from r + n) (others r t) others-whole
+      none-starts from (λ q. q .size) (t .fields .page) (from r + n) (others r t) others-whole
       (sound-alone (h .sound) r (h .member) (from r + n) (omega arith) (omega arith) .0)
 
   -- no buffer starts where the region does
   buffer-new : All (λ b. b .start .0 ≡ from r → ⊥) (t .live)
   buffer-new =
-      none-starts (λ b. b .start .0) (λ b. b .size) (t .page) (from r) (t .live) (h .sound .live)
+      none-starts (λ b. b .start .0) (λ b. b .size) (t .fields .page) (from r) (t .live) (h .sound .live)
       (sound-alone (h .sound) r (h .member) (from r) (omega arith) (omega (arith, range .size .positive)) .1)
 
   covers : (x : ℕ) → coverFree (regions n r t) x + coverLive (buffers n s r t) x ≡ coverFree (t .free) x + coverLive (t .live) x
@@ -71,9 +72,9 @@ module _ {lost : ℕ → ℕ} (n s : ℕ) (r : FreeRegion) (t : Tables) (h : Han
   hand-spans : Spans none none none none (regions n r t) (buffers n s r t) t
   hand-spans =
       record {
-        free = all-putRest n r (others r t) (h .most) (λ q. WholeRange (t .page) (from q) (q .size)) rest-whole others-whole;
+        free = all-putRest n r (others r t) (h .most) (λ q. WholeRange (t .fields .page) (from q) (q .size)) rest-whole others-whole;
         live =
-            all-put (λ b. b .start .0) (λ b. WholeRange (t .page) (b .start .0) (b .size)) (buffer (from r) n s) (t .live)
+            all-put (λ b. b .start .0) (λ b. WholeRange (t .fields .page) (b .start .0) (b .size)) (buffer (from r) n s) (t .live)
             (record { start = range .start; size = h .size })
             (h .sound .live);
         freeRises =
@@ -90,12 +91,12 @@ module _ {lost : ℕ → ℕ} (n s : ℕ) (r : FreeRegion) (t : Tables) (h : Han
               sum-without from (λ q. equal (q .id .0) i) 0 r (t .free) (h .sound .freeRises) (h .member),
             );
         freeIds =
-            all-putRest n r (others r t) (h .most) (λ q. q .id .0 < t .counter)
-            (λ _. member-all (λ q. q .id .0 < t .counter) r (t .free) (h .member) (h .sound .freeIds))
-            (all-without from (λ q. q .id .0 < t .counter) (from r) (t .free) (h .sound .freeIds));
+            all-putRest n r (others r t) (h .most) (λ q. q .id .0 < t .fields .counter)
+            (λ _. member-all (λ q. q .id .0 < t .fields .counter) r (t .free) (h .member) (h .sound .freeIds))
+            (all-without from (λ q. q .id .0 < t .fields .counter) (from r) (t .free) (h .sound .freeIds));
       }
 
-  spans : length (regions n r t) + length (buffers n s r t) ≤ 128
+  spans : length (regions n r t) + length (buffers n s r t) ≤ SPANS
   spans =
       let fewer = length-without from 0 r (t .free) (h .sound .freeRises) (h .member) in
       let more = length-put (λ b. b .start .0) (buffer (from r) n s) (t .live) in

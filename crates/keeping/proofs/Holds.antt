@@ -1,4 +1,4 @@
--- The rules of the triple: one for each way that a step is made. Assumes nothing.
+-- The rules of the triple: one for each way that a step is made.
 use mathlib.Core.Path.{_≡_, refl, ap}
 use mathlib.Core.Bool.{Bool, true, false, cond}
 use mathlib.Core.List.{List, [], _∷_}
@@ -8,25 +8,8 @@ use Rattle.words.specs.Answers.{lent, codeOf, failed, complete}
 use Rattle.words.specs.declared.Answer.{Answer}
 use Rattle.words.specs.declared.Answer.the-variants.{Done, Failed, Missing}
 use Rattle.tables.specs.Values.{Tables}
-use Rattle.tables.specs.Steps.{Ending, on, ends, Went, Step, Act, after, _>>=_, give, end, endIf, nothing, each, tables, change}
-use Rattle.tables.specs.Driver.{
-  heard,
-  driver,
-  must,
-  try,
-  isComplete,
-  reserve,
-  create,
-  map,
-  access,
-  unmap,
-  release,
-  recordEvent,
-  ask,
-  wait,
-  sync,
-  giveback,
-}
+use Rattle.tables.specs.Steps.{Ending, on, ends, Went, Step, Act, after, _>>=_, give, end, endIf, each, tables, change}
+use Rattle.tables.specs.Driver.{heard, must, try, isComplete, reserve, create, map, access, unmap, release, recordEvent, ask, wait, sync, giveback}
 use Rattle.tables.specs.declared.Outcome.{Outcome}
 use Rattle.tables.specs.declared.Outcome.the-variants.{DriverFailed, AnswersRanOut}
 use Rattle.keeping.specs.Holds.{After, Holds}

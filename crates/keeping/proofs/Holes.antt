@@ -1,5 +1,4 @@
 -- Insert hole, and taking the low part of a hole: what the holes cover then, that they stay in order and of whole pages, and how many they are.
--- Assumes nothing.
 use mathlib.Core.Path.{_≡_, refl, ap}
 use mathlib.Core.Logic.{_⊎_, inl, inr, ⊎-elim}
 use mathlib.Core.Bool.{Bool, true, false, cond}

@@ -1,10 +1,10 @@
 -- Insert free: the range in hand and the regions that it merges with become one region of the free table, which covers what they covered; a failed
--- record leaves the others only. Assumes nothing.
+-- record leaves the others only.
 use mathlib.Core.Path.{_≡_, refl, ap, sym, subst}
 use mathlib.Core.Logic.{_⊎_, inl, inr, ⊎-elim}
 use mathlib.Core.Bool.{true, not}
 use mathlib.Core.List.{List, [], _∷_}
-use Prim.Native.Nat.{ℕ, suc, _+_, _≤_, _<_}
+use Prim.Native.Nat.{ℕ, suc, _+_, _-_, _≤_, _<_}
 use native.Mathlib.Omega.{arith}
 use lib.ListN.{length}
 use Rattle.lists.specs.Tests.{All, Member, filter}
@@ -15,6 +15,7 @@ use Rattle.lists.proofs.Order.{sum-put, length-put, all-put}
 use Rattle.lists.proofs.Walks.{sum-filter, sum-none}
 use Rattle.lists.proofs.Members.{member-filter, filter-member, member-put, put-member, rises-put, length-without, sum-member}
 use Rattle.lists.proofs.Filters.{all-passed, rises-filter, length-filters}
+use Rattle.tables.specs.Bounds.{HOLES, SPANS, ZOMBIES}
 use Rattle.tables.specs.Values.{Tables, withFree, withCounter}
 use Rattle.tables.specs.InsertFree.{from, upto, bytes, putFree, withoutFree, merges, merged, insertFree}
 use Rattle.tables.specs.declared.FreeRegion.{FreeRegion}
@@ -42,8 +43,8 @@ use Rattle.keeping.proofs.Regions.{Touches, merges-touches, merges-prev
 -- before: the range is in hand, and its pages are active beside what free and live say
 pub record Inserting (lost hand bare : ℕ → ℕ) (p f a n : ℕ) (l : List FreeRegion) (t : Tables) : Type 0 where
   pub sound : Sound lost (λ x. hand x + within a n x) (λ x. bare x + within a n x) t
-  pub range : WholeRange (t .page) a n
-  pub few : Few 0 127 t
+  pub range : WholeRange (t .fields .page) a n
+  pub few : Few 0 (SPANS - 1) t
   pub known : Known p f t
   pub list : t .free ≡ l
 
@@ -53,9 +54,9 @@ pub record Inserted (lost hand bare : ℕ → ℕ) (p f a n s : ℕ) (l : List F
   pub member : Member r (t .free)
   pub stream : r .stream ≡ s
   pub size : n ≤ r .size
-  pub few : Few 0 128 t
+  pub few : Few 0 SPANS t
   -- a merge leaves room for a tail
-  pub room : (r .size ≡ n) ⊎ (length (t .free) + length (t .live) ≤ 127)
+  pub room : (r .size ≡ n) ⊎ (length (t .free) + length (t .live) ≤ SPANS - 1)
   pub known : Known p (f + n) t
   -- nothing follows where the next address is in hand
   pub ends : hand (a + n) ≡ 1 → r .start .0 + r .size ≡ a + n
@@ -73,17 +74,17 @@ abbrev rest : ℕ → ℕ → ℕ → Tables → List FreeRegion
 rest a n s u = filter (λ q. not (merges a n s q)) (u .free)
 
 abbrev new : ℕ → ℕ → ℕ → Tables → FreeRegion
-new a n s u = merged a n s (u .counter) (near a n s u)
+new a n s u = merged a n s (u .fields .counter) (near a n s u)
 
 -- what is left where the record fails, and what is reached where it does not
 abbrev taken : ℕ → ℕ → ℕ → Tables → Tables
 taken a n s u = withFree (rest a n s u) u
 
 abbrev done : ℕ → ℕ → ℕ → Tables → Tables
-done a n s u = withCounter (u .counter + 1) (withFree (putFree (new a n s u) (rest a n s u)) u)
+done a n s u = withCounter (u .fields .counter + 1) (withFree (putFree (new a n s u) (rest a n s u)) u)
 
 abbrev WholeIn : Tables → FreeRegion → Type 0
-WholeIn u q = WholeRange (u .page) (q .start .0) (q .size)
+WholeIn u q = WholeRange (u .fields .page) (q .start .0) (q .size)
 
 -- from the tables `u` on
 module _ (lost hand bare : ℕ → ℕ) (p f a n s : ℕ) (l : List FreeRegion) (u : Tables) (i : Inserting lost hand bare p f a n l u) where
@@ -101,8 +102,8 @@ module _ (lost hand bare : ℕ → ℕ) (p f a n s : ℕ) (l : List FreeRegion) 
 
   whole-new : WholeIn u (new a n s u)
   whole-new = record {
-    start = whole-least (u .page) a (near a n s u) (i .range .start) whole-near;
-    size = whole-bytes (u .page) n (near a n s u) (i .range .size) whole-near;
+    start = whole-least (u .fields .page) a (near a n s u) (i .range .start) whole-near;
+    size = whole-bytes (u .fields .page) n (near a n s u) (i .range .size) whole-near;
   }
 
   besides : Beside a n (near a n s u)
@@ -110,7 +111,7 @@ module _ (lost hand bare : ℕ → ℕ) (p f a n s : ℕ) (l : List FreeRegion) 
       beside
       a
       n
-      (u .page)
+      (u .fields .page)
       0
       (near a n s u)
       (i .range .size .positive)
@@ -129,7 +130,7 @@ module _ (lost hand bare : ℕ → ℕ) (p f a n s : ℕ) (l : List FreeRegion) 
   new-apart =
       let x = from (new a n s u) in
       let g : FreeRegion → ℕ = λ r. within (r .start .0) (r .size) x in
-      none-starts from (λ q. q .size) (u .page) x (rest a n s u) whole-rest
+      none-starts from (λ q. q .size) (u .fields .page) x (rest a n s u) whole-rest
       (omega (arith, once x, parts g, cover-merged a n (near a n s u) besides x, within-in x (new a n s u .size) x (omega arith) (omega (arith, whole-new .size .positive))))
 
   rises-done : Rises from 0 (done a n s u .free)
@@ -141,30 +142,30 @@ module _ (lost hand bare : ℕ → ℕ) (p f a n s : ℕ) (l : List FreeRegion) 
   ids-done : (k : ℕ) → idsAt (done a n s u .free) k ≤ 1
   ids-done k =
       ⊎-elim
-      (λ e. omega (arith, put-ids, equal-le (u .counter) k, rw e at fresh))
-      (λ e. omega (arith, put-ids, equal-other (u .counter) k e, parts (λ r. equal (r .id .0) k), i .sound .idsOnce k))
-      (cases-eq (u .counter) k)
+      (λ e. omega (arith, put-ids, equal-le (u .fields .counter) k, rw e at fresh))
+      (λ e. omega (arith, put-ids, equal-other (u .fields .counter) k e, parts (λ r. equal (r .id .0) k), i .sound .idsOnce k))
+      (cases-eq (u .fields .counter) k)
     where
-      put-ids : idsAt (done a n s u .free) k ≡ equal (u .counter) k + idsAt (rest a n s u) k
+      put-ids : idsAt (done a n s u .free) k ≡ equal (u .fields .counter) k + idsAt (rest a n s u) k
       put-ids = sum-put from (λ r. equal (r .id .0) k) (new a n s u) (rest a n s u)
 
-      fresh : idsAt (rest a n s u) (u .counter) ≡ 0
+      fresh : idsAt (rest a n s u) (u .fields .counter) ≡ 0
       fresh =
-          sum-none (λ r. equal (r .id .0) (u .counter)) (rest a n s u)
-          (all-filter (λ r. equal (r .id .0) (u .counter) ≡ 0) (λ q. not (merges a n s q)) (u .free)
-          (all-implies (λ r. r .id .0 < u .counter) (λ r. equal (r .id .0) (u .counter) ≡ 0) (λ r h. equal-other (r .id .0) (u .counter) (λ e. omega arith)) (u .free) (i .sound .freeIds)))
+          sum-none (λ r. equal (r .id .0) (u .fields .counter)) (rest a n s u)
+          (all-filter (λ r. equal (r .id .0) (u .fields .counter) ≡ 0) (λ q. not (merges a n s q)) (u .free)
+          (all-implies (λ r. r .id .0 < u .fields .counter) (λ r. equal (r .id .0) (u .fields .counter) ≡ 0) (λ r h. equal-other (r .id .0) (u .fields .counter) (λ e. omega arith)) (u .free) (i .sound .freeIds)))
 
   sound-done : Sound lost hand bare (done a n s u)
   sound-done =
-      sound-free (sound-counter (i .sound) (u .counter + 1) (omega arith)) (putFree (new a n s u) (rest a n s u))
+      sound-free (sound-counter (i .sound) (u .fields .counter + 1) (omega arith)) (putFree (new a n s u) (rest a n s u))
       (all-put from (WholeIn u) (new a n s u) (rest a n s u) whole-new whole-rest)
       rises-done
       (λ x. omega (arith, cover-done x))
       (λ x h. omega (arith, cover-done x))
       ids-done
-      (all-put from (λ r. r .id .0 < u .counter + 1) (new a n s u) (rest a n s u) (omega arith)
-      (all-filter (λ r. r .id .0 < u .counter + 1) (λ q. not (merges a n s q)) (u .free)
-      (all-implies (λ r. r .id .0 < u .counter) (λ r. r .id .0 < u .counter + 1) (λ r h. omega arith) (u .free) (i .sound .freeIds))))
+      (all-put from (λ r. r .id .0 < u .fields .counter + 1) (new a n s u) (rest a n s u) (omega arith)
+      (all-filter (λ r. r .id .0 < u .fields .counter + 1) (λ q. not (merges a n s q)) (u .free)
+      (all-implies (λ r. r .id .0 < u .fields .counter) (λ r. r .id .0 < u .fields .counter + 1) (λ r h. omega arith) (u .free) (i .sound .freeIds))))
 
   length-rest : length (near a n s u) + length (rest a n s u) ≡ length (u .free)
   length-rest = length-filters (merges a n s) (u .free)
@@ -181,18 +182,18 @@ module _ (lost hand bare : ℕ → ℕ) (p f a n s : ℕ) (l : List FreeRegion) 
     roots = i .few .roots;
   }
 
-  room-done : (new a n s u .size ≡ n) ⊎ (length (done a n s u .free) + length (u .live) ≤ 127)
+  room-done : (new a n s u .size ≡ n) ⊎ (length (done a n s u .free) + length (u .live) ≤ SPANS - 1)
   room-done = go (near a n s u) length-rest
     where
       go : (k : List FreeRegion) → length k + length (rest a n s u) ≡ length (u .free) →
-          (n + bytes k ≡ n) ⊎ (length (done a n s u .free) + length (u .live) ≤ 127)
+          (n + bytes k ≡ n) ⊎ (length (done a n s u .free) + length (u .live) ≤ SPANS - 1)
       go [] h = inl (omega arith)
       go (q ∷ k) h = inr (omega (arith, length-done))
 
   ends-done : hand (a + n) ≡ 1 → upto (new a n s u) ≡ a + n
   ends-done h =
       ends-merged a n (near a n s u) besides
-      (none-starts from (λ q. q .size) (u .page) (a + n) (near a n s u) whole-near (omega (arith, once (a + n), parts (λ r. within (r .start .0) (r .size) (a + n)))))
+      (none-starts from (λ q. q .size) (u .fields .page) (a + n) (near a n s u) whole-near (omega (arith, once (a + n), parts (λ r. within (r .start .0) (r .size) (a + n)))))
 
   grows-done : (q : FreeRegion) → Member q (u .free) → q .stream ≡ s → upto q ≡ a → q .size + n ≤ new a n s u .size
   grows-done q m e h = omega (arith, sum-member (λ r. r .size) q (near a n s u) (filter-member (merges a n s) q (u .free) m (merges-previous a n s q e h)))
@@ -240,14 +241,14 @@ inserts-free-and R keeps lost hand bare p f a n s l =
     let reached : Tables = withFree (putFree r (rest a n s u)) u in
     holds-then (λ _ t. t ≡ taken a n s u) (holds-known (λ t. withFree (filter (λ q. not (merges a n s q)) (t .free)) t) u) (λ _.
     holds-then (λ _ t. t ≡ taken a n s u)
-    (holds-must (drives-record (u .counter) s) (λ t e. tt) (λ c t e. subst Ceilings (sym e) (ceilings-taken lost hand bare p f a n s l u (i .0))))
+    (holds-must (drives-record (u .fields .counter) s) (λ t e. tt) (λ c t e. subst Ceilings (sym e) (ceilings-taken lost hand bare p f a n s l u (i .0))))
     (λ _.
     holds-then (λ _ t. t ≡ reached) (holds-known (λ t. withFree (putFree r (t .free)) t) (taken a n s u)) (λ _.
-    holds-then (λ _ t. t ≡ done a n s u) (holds-known (λ t. withCounter (t .counter + 1) t) reached) (λ _.
+    holds-then (λ _ t. t ≡ done a n s u) (holds-known (λ t. withCounter (t .fields .counter + 1) t) reached) (λ _.
     holds-from
     (λ t e.
     subst (λ t. Inserted lost hand bare p f a n s l r t × R t) (sym e)
-    (inserted-done lost hand bare p f a n s l u (i .0), keeps (putFree r (rest a n s u)) (u .counter + 1) u (i .1)))
+    (inserted-done lost hand bare p f a n s l u (i .0), keeps (putFree r (rest a n s u)) (u .fields .counter + 1) u (i .1)))
     (holds-give r))))))
 
 pub inserts-free : (lost hand bare : ℕ → ℕ) (p f a n s : ℕ) (l : List FreeRegion) →
@@ -266,17 +267,17 @@ inserts-free-pullable lost hand bare p f a n s l =
     holds-from (λ t i. (i .0, (omega (arith, i .1 .zombies, ap length (i .0 .list)), omega (arith, i .1 .holes, ap length (i .0 .list)))))
     (holds-to (λ r t q. (q .0, record { zombies = omega (arith, q .0 .fewer, q .1 .0); holes = omega (arith, q .0 .fewer, q .1 .1) }))
     (inserts-free-and
-    (λ t. (length (t .zombies) + length l ≤ 128) × (length (t .zombies) + length l + length (t .holes) ≤ 512))
+    (λ t. (length (t .zombies) + length l ≤ ZOMBIES) × (length (t .zombies) + length l + length (t .holes) ≤ HOLES))
     (λ k c t q. q)
     lost hand bare p f a n s l))
 
 -- At most one id is spent.
-pub insert-counts : (a n s c : ℕ) → Holds (λ t. t .counter ≡ c) (insertFree a n s) (λ _ t. t .counter ≤ c + 1) (λ _ t. t .counter ≤ c + 1)
+pub insert-counts : (a n s c : ℕ) → Holds (λ t. t .fields .counter ≡ c) (insertFree a n s) (λ _ t. t .fields .counter ≤ c + 1) (λ _ t. t .fields .counter ≤ c + 1)
 unfolding insertFree
 insert-counts a n s c =
     holds-looked (λ u e.
     holds-from (λ t q. rw q e)
-    (holds-then (λ _ t. t .counter ≡ c) (holds-change _ (λ t q. q)) (λ _.
-    holds-then (λ _ t. t .counter ≡ c) (holds-must (drives-record (u .counter) s) (λ t q. omega arith) (λ k t q. omega arith)) (λ _.
-    holds-then (λ _ t. t .counter ≡ c) (holds-change _ (λ t q. q)) (λ _.
-    holds-then (λ _ t. t .counter ≤ c + 1) (holds-change _ (λ t q. omega arith)) (λ _. holds-give _))))))
+    (holds-then (λ _ t. t .fields .counter ≡ c) (holds-change _ (λ t q. q)) (λ _.
+    holds-then (λ _ t. t .fields .counter ≡ c) (holds-must (drives-record (u .fields .counter) s) (λ t q. omega arith) (λ k t q. omega arith)) (λ _.
+    holds-then (λ _ t. t .fields .counter ≡ c) (holds-change _ (λ t q. q)) (λ _.
+    holds-then (λ _ t. t .fields .counter ≤ c + 1) (holds-change _ (λ t q. omega arith)) (λ _. holds-give _))))))

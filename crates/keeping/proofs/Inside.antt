@@ -1,5 +1,5 @@
 -- A range is inside a list of ranges just where each of its addresses is covered: the addresses that it has in common with them, range by range, are
--- its covered addresses, counted one by one. Assumes nothing.
+-- its covered addresses, counted one by one.
 use mathlib.Core.Path.{_≡_, refl, _∙_, sym}
 use mathlib.Core.Logic.{_⊎_, inl, inr}
 use mathlib.Core.List.{List, [], _∷_}

@@ -1,5 +1,5 @@
 -- What each call leaves of a pool, in the words of the page: 17 leaves it as at entry, 14 and 15 stop it within its ceilings, and every other number
--- keeps it. Of these only a success of malloc drops a range. Assumes nothing.
+-- keeps it. Of these only a success of malloc drops a range.
 use mathlib.Core.Path.{_≡_, refl, sym, _∙_}
 use mathlib.Core.Bool.{Bool, true, false, false≢true, cond, _||_}
 use mathlib.Core.List.{List}
@@ -22,31 +22,8 @@ use Rattle.tables.specs.Open.{openSteps, poolOpened, openFinished}
 use Rattle.tables.specs.declared.LiveBuffer.{LiveBuffer}
 use Rattle.tables.specs.declared.Pool.{Pool}
 use Rattle.tables.specs.declared.Outcome.{Outcome}
-use Rattle.tables.specs.declared.Outcome.the-variants.{
-  Opened,
-  Allocated,
-  Freed,
-  Closed,
-  PoolClosed,
-  PoolStopped,
-  NotWellFormed,
-  ShortLog,
-  IdsSpent,
-  BadSize,
-  SpansFull,
-  RequestedExceedsVa,
-  PagesFull,
-  ZombiesFull,
-  RootsFull,
-  ReserveFailed,
-  OutOfMemory,
-  DriverFailed,
-  Incredible,
-  InvalidPointer,
-  AnswersRanOut,
-  BadConfiguration,
-}
-use Rattle.keeping.specs.Sound.{none, Ceilings, Kept, KeptBut, Left}
+use Rattle.tables.specs.declared.Outcome.the-variants.{Opened, Allocated, Freed}
+use Rattle.keeping.specs.Sound.{none, Ceilings, Kept, KeptBut, LeftAt, Left}
 use Rattle.keeping.specs.Holds.{After, Holds}
 use Rattle.keeping.specs.Malloc.{Asked}
 use Rattle.keeping.specs.Open.{Configured}
@@ -57,38 +34,25 @@ use Rattle.keeping.proofs.FreeCall.{frees}
 use Rattle.keeping.proofs.Malloc.{mallocs}
 use Rattle.keeping.proofs.Open.{OpenedKept, opens-kept}
 
--- By the number of an outcome.
-pub record LeftBy (K : Tables → Type 0) (o : Outcome) (t : Tables) : Type 0 where
-  pub ceilings : is 17 o ≡ false → Ceilings t
-  pub kept : is 17 o ≡ false → (is 14 o || is 15 o) ≡ false → K t
+-- By the number of an outcome: whether it is 17, and whether it is 14 or 15.
+pub record LeftWhere (K : Tables → Type 0) (short halts : Bool) (t : Tables) : Type 0 where
+  pub ceilings : short ≡ false → Ceilings t
+  pub kept : short ≡ false → halts ≡ false → K t
 
-left-kept : {lost : ℕ → ℕ} {o : Outcome} {t : Tables} → Kept lost t → LeftBy (Kept lost) o t
-left-kept k = record { ceilings = λ a. k .ceilings; kept = λ a b. k }
+abbrev pub LeftBy : (Tables → Type 0) → Outcome → Tables → Type 0
+LeftBy K o t = LeftWhere K (is 17 o) (is 14 o || is 15 o) t
+
+left-kept : {lost : ℕ → ℕ} {short halts : Bool} {t : Tables} → Kept lost t → LeftWhere (Kept lost) short halts t
+left-kept k = record { ceilings = λ e. k .ceilings; kept = λ e h. k }
 
 -- what an early ending leaves
 pub left-by : (lost : ℕ → ℕ) (o : Outcome) (t : Tables) → Left lost o t → LeftBy (Kept lost) o t
-left-by lost (Opened a b) t k = left-kept k
-left-by lost (Allocated a b) t k = left-kept k
-left-by lost (Freed a b) t k = left-kept k
-left-by lost (Closed a) t k = left-kept k
-left-by lost PoolClosed t k = left-kept k
-left-by lost PoolStopped t k = left-kept k
-left-by lost NotWellFormed t k = left-kept k
-left-by lost ShortLog t k = left-kept k
-left-by lost IdsSpent t k = left-kept k
-left-by lost (BadSize a) t k = left-kept k
-left-by lost SpansFull t k = left-kept k
-left-by lost (RequestedExceedsVa a b) t k = left-kept k
-left-by lost PagesFull t k = left-kept k
-left-by lost ZombiesFull t k = left-kept k
-left-by lost RootsFull t k = left-kept k
-left-by lost (ReserveFailed a b) t k = left-kept k
-left-by lost (OutOfMemory a b) t k = left-kept k
-left-by lost (DriverFailed a) t c = record { ceilings = λ a. c; kept = λ a b. absurd (false≢true (sym b)) }
-left-by lost Incredible t c = record { ceilings = λ a. c; kept = λ a b. absurd (false≢true (sym b)) }
-left-by lost (InvalidPointer a) t k = left-kept k
-left-by lost AnswersRanOut t c = record { ceilings = λ a. absurd (false≢true (sym a)); kept = λ a b. absurd (false≢true (sym a)) }
-left-by lost BadConfiguration t k = left-kept k
+left-by lost o t = go (is 17 o) (is 14 o || is 15 o)
+  where
+    go : (a b : Bool) → LeftAt a b lost t → LeftWhere (Kept lost) a b t
+    go true b k = record { ceilings = λ e. absurd (false≢true (sym e)); kept = λ e h. absurd (false≢true (sym e)) }
+    go false true c = record { ceilings = λ e. c; kept = λ e h. absurd (false≢true (sym h)) }
+    go false false k = left-kept k
 
 -- What a call leaves of the pool `p`, where `K` is true of tables that are kept.
 pub data PoolLeft (K : Tables → Type 0) (p : Pool) : Pool → Type 0 where
@@ -148,7 +112,7 @@ unfolding openSteps
 open-succeeds initial stream =
     holds-then still holds-any (λ b.
     holds-then still holds-any (λ t.
-    holds-then still holds-any (λ _. gives (Opened (address b) (t .page)) refl)))
+    holds-then still holds-any (λ _. gives (Opened (address b) (t .fields .page)) refl)))
 
 module _ (lost : ℕ → ℕ) (p : Pool) (xs : List ℕ) (t : Tables) where
   -- Malloc keeps the pool but for a range that it may drop.

@@ -1,5 +1,5 @@
 -- Make room: a range is taken, the missing pages are made in it, and the free bytes fill the rest. Less than the range is used where the new pages merge
--- with what was free. Assumes nothing.
+-- with what was free.
 use mathlib.Core.Path.{_≡_, refl}
 use mathlib.Core.Logic.{_⊎_, ⊎-elim}
 use mathlib.Core.Option.{Option, some, none}
@@ -9,6 +9,7 @@ use native.Mathlib.Nat.{div-add-mod', zero-mod}
 use lib.ListN.{length}
 use Rattle.lists.specs.Tests.{Member}
 use Rattle.lists.proofs.Tests.{cases-lt}
+use Rattle.tables.specs.Bounds.{SPANS}
 use Rattle.tables.specs.Values.{Tables}
 use Rattle.tables.specs.Steps.{_>>=_, _>>_}
 use Rattle.tables.specs.InsertFree.{bytes}
@@ -40,10 +41,10 @@ pub record Roomed (lost : ℕ → ℕ) (f n s : ℕ) (r : FreeRegion) (t : Table
   pub sound : Sound (λ x. lost x + within (dropped .0) (dropped .1) x) S.none S.none t
   pub member : Member r (t .free)
   pub stream : r .stream ≡ s
-  pub size : Whole (t .page) n
+  pub size : Whole (t .fields .page) n
   pub most : n ≤ r .size
-  pub few : Few 0 128 t
-  pub room : (r .size ≡ n) ⊎ (length (t .free) + length (t .live) ≤ 127)
+  pub few : Few 0 SPANS t
+  pub room : (r .size ≡ n) ⊎ (length (t .free) + length (t .live) ≤ SPANS - 1)
 
 -- what is dropped, within its bound
 pub filled-roomed : (lost : ℕ → ℕ) (f n s d : ℕ) (r : FreeRegion) (t : Tables) → Dropped f n d → Filled lost n s d r t → Roomed lost f n s r t
@@ -89,8 +90,8 @@ aligned-missing lost p f k n t w =
     size : Whole p n
     size = rw (w .known .page) at (w .size)
 
-    bytes-aligned : bytes (t .free) % t .page ≡ 0
-    bytes-aligned = aligned-rest (t .page) n (bytes (t .free)) (w .size .aligned) (whole-bytes (t .page) n (t .free) (w .size) (w .sound .free) .aligned)
+    bytes-aligned : bytes (t .free) % t .fields .page ≡ 0
+    bytes-aligned = aligned-rest (t .fields .page) n (bytes (t .free)) (w .size .aligned) (whole-bytes (t .fields .page) n (t .free) (w .size) (w .sound .free) .aligned)
 
 module _ (lost : ℕ → ℕ) (p f n s : ℕ) where
   abbrev pub count : ℕ

@@ -1,5 +1,5 @@
 -- Malloc: cleanup and fit keep the pool as it is, and where none fits, what is refused before room is made is what making room starts from; the region
--- that either gives is handed over. Assumes nothing.
+-- that either gives is handed over.
 use mathlib.Core.Path.{_≡_, refl}
 use mathlib.Core.Logic.{inr}
 use mathlib.Core.Bool.{Bool, true, false, _&&_, _||_}
@@ -10,6 +10,7 @@ use borrow.Author.Tests.{ltb-false, leb-false}
 use lib.Dec.{ltb, leb}
 use lib.ListN.{length}
 use Rattle.lists.proofs.Tests.{neither, not-both}
+use Rattle.tables.specs.Bounds.{HOLES, PAGES, ROOTS, SPANS, ZOMBIES}
 use Rattle.tables.specs.Values.{Tables}
 use Rattle.tables.specs.Steps.{endIf}
 use Rattle.tables.specs.InsertFree.{bytes}
@@ -38,11 +39,11 @@ losing lost d x = lost x + within (d .0) (d .1) x
 
 -- None of 8 to 11 applies.
 record Admits (n : ℕ) (t : Tables) : Type 0 where
-  most : n ≤ t .va
-  pages : length (t .pages) + missing n t / t .page ≤ 256
-  zombies : length (t .zombies) + length (t .free) ≤ 128
-  holes : length (t .zombies) + length (t .free) + length (t .holes) ≤ 511
-  root : noHole (smallestHole n (t .holes)) ≡ true → length (t .roots) < 16
+  most : n ≤ t .fields .va
+  pages : length (t .pages) + missing n t / t .fields .page ≤ PAGES
+  zombies : length (t .zombies) + length (t .free) ≤ ZOMBIES
+  holes : length (t .zombies) + length (t .free) + length (t .holes) ≤ (HOLES - 1)
+  root : noHole (smallestHole n (t .holes)) ≡ true → length (t .roots) < ROOTS
 
 module _ (lost : ℕ → ℕ) (n : ℕ) where
   -- a refusal leaves the pool as it was
@@ -55,27 +56,27 @@ module _ (lost : ℕ → ℕ) (n : ℕ) where
   refused-admits P kept =
       holds-looked (λ u w.
       let k = kept u w in
-      holds-then _ (refuses u (ltb (u .va) n) (RequestedExceedsVa n (u .va)) (λ q. q) k) (λ _. holds-given (λ va.
-      holds-then _ (refuses u (ltb 256 (length (u .pages) + missing n u / u .page)) PagesFull (λ q. q) k) (λ _. holds-given (λ pages.
-      holds-then _ (refuses u (ltb 128 (pulled u) || ltb 511 (pulled u + length (u .holes))) ZombiesFull (λ q. q) k) (λ _. holds-given (λ full.
+      holds-then _ (refuses u (ltb (u .fields .va) n) (RequestedExceedsVa n (u .fields .va)) (λ q. q) k) (λ _. holds-given (λ va.
+      holds-then _ (refuses u (ltb PAGES (length (u .pages) + missing n u / u .fields .page)) PagesFull (λ q. q) k) (λ _. holds-given (λ pages.
+      holds-then _ (refuses u (ltb ZOMBIES (pulled u) || ltb (HOLES - 1) (pulled u + length (u .holes))) ZombiesFull (λ q. q) k) (λ _. holds-given (λ full.
       holds-to (λ _ t q. rw (q .1) (admits u va pages full (q .0), w))
-      (refuses u (noHole (smallestHole n (u .holes)) && leb 16 (length (u .roots))) RootsFull (λ q. q) k))))))))
+      (refuses u (noHole (smallestHole n (u .holes)) && leb ROOTS (length (u .roots))) RootsFull (λ q. q) k))))))))
     where
       pulled : Tables → ℕ
       pulled u = length (u .zombies) + length (u .free)
 
-      admits : (u : Tables) → ltb (u .va) n ≡ false → ltb 256 (length (u .pages) + missing n u / u .page) ≡ false →
-          (ltb 128 (pulled u) || ltb 511 (pulled u + length (u .holes))) ≡ false →
-          (noHole (smallestHole n (u .holes)) && leb 16 (length (u .roots))) ≡ false → Admits n u
+      admits : (u : Tables) → ltb (u .fields .va) n ≡ false → ltb PAGES (length (u .pages) + missing n u / u .fields .page) ≡ false →
+          (ltb ZOMBIES (pulled u) || ltb (HOLES - 1) (pulled u + length (u .holes))) ≡ false →
+          (noHole (smallestHole n (u .holes)) && leb ROOTS (length (u .roots))) ≡ false → Admits n u
       admits u va pages full roots =
-          let f = neither (ltb 128 (pulled u)) (ltb 511 (pulled u + length (u .holes))) full in
+          let f = neither (ltb ZOMBIES (pulled u)) (ltb (HOLES - 1) (pulled u + length (u .holes))) full in
           record {
-            most = ltb-false (u .va) n va;
-            pages = ltb-false 256 (length (u .pages) + missing n u / u .page) pages;
-            zombies = ltb-false 128 (pulled u) (f .0);
-            holes = ltb-false 511 (pulled u + length (u .holes)) (f .1);
+            most = ltb-false (u .fields .va) n va;
+            pages = ltb-false PAGES (length (u .pages) + missing n u / u .fields .page) pages;
+            zombies = ltb-false ZOMBIES (pulled u) (f .0);
+            holes = ltb-false (HOLES - 1) (pulled u + length (u .holes)) (f .1);
             root = λ e.
-                leb-false 16 (length (u .roots)) (not-both (noHole (smallestHole n (u .holes))) (leb 16 (length (u .roots))) roots e);
+                leb-false ROOTS (length (u .roots)) (not-both (noHole (smallestHole n (u .holes))) (leb ROOTS (length (u .roots))) roots e);
           }
 
 -- What fit found or what room was made is ready to be handed over.
@@ -83,7 +84,7 @@ abbrev pub Handed : (ℕ → ℕ) → ℕ → ℕ → FreeRegion → Tables → 
 Handed lost f n r t = (d : ℕ × ℕ) × (Dropped f n (d .1) × Handing (losing lost d) n r t)
 
 module _ (lost : ℕ → ℕ) (p f n s : ℕ) (size : Whole p n) where
-  pub found : (r : FreeRegion) (t : Tables) → Fitted lost p f 127 n (some r) t → Handed lost f n r t
+  pub found : (r : FreeRegion) (t : Tables) → Fitted lost p f (SPANS - 1) n (some r) t → Handed lost f n r t
   found r t (w, m) = (
     (0, 0),
     (
@@ -105,7 +106,7 @@ module _ (lost : ℕ → ℕ) (p f n s : ℕ) (size : Whole p n) where
     (w .bounded, record { sound = w .sound; member = w .member; size = w .size; most = w .most; few = w .few; room = w .room }),
   )
 
-  takes-from : (t : Tables) → Admits n t → Fitting lost p f 127 t → TakesFrom lost p f ((n - f) / p) n t
+  takes-from : (t : Tables) → Admits n t → Fitting lost p f (SPANS - 1) t → TakesFrom lost p f ((n - f) / p) n t
   takes-from t a w =
       record {
         sound = w .0 .sound;
@@ -126,10 +127,10 @@ module _ (lost : ℕ → ℕ) (p f n s : ℕ) (size : Whole p n) where
       }
 
   -- what is not refused can be made room for
-  pub admits-room : Holds (Fitting lost p f 127) (roomRefused n) (λ _. TakesFrom lost p f ((n - f) / p) n) (Left lost)
-  admits-room = holds-to (λ _ t w. takes-from t (w .0) (w .1)) (refused-admits lost n (Fitting lost p f 127) (λ t w. w .0))
+  pub admits-room : Holds (Fitting lost p f (SPANS - 1)) (roomRefused n) (λ _. TakesFrom lost p f ((n - f) / p) n) (Left lost)
+  admits-room = holds-to (λ _ t w. takes-from t (w .0) (w .1)) (refused-admits lost n (Fitting lost p f (SPANS - 1)) (λ t w. w .0))
 
-  gives-region : (x : Option FreeRegion) → Holds (Fitted lost p f 127 n x) (orRoom n s x) (Handed lost f n) (Left lost)
+  gives-region : (x : Option FreeRegion) → Holds (Fitted lost p f (SPANS - 1) n x) (orRoom n s x) (Handed lost f n) (Left lost)
   unfolding orRoom
   gives-region none = holds-then (λ _. TakesFrom lost p f ((n - f) / p) n) admits-room (λ _. holds-to made (makes-room lost p f n s))
   gives-region (some r) = holds-from (found r) (holds-give r)
@@ -144,7 +145,7 @@ hands-out lost f n s r =
     holds-from (λ t e. rw e (w .1 .1)) (holds-to (λ _ t k. (w .0, (w .1 .0, k))) (hands-over (losing lost (w .0)) n s r)))
 
 -- malloc starts from what stands through cleanup and fit, where `f` bytes are free
-pub begins : (lost : ℕ → ℕ) (n f : ℕ) (u : Tables) → Asked lost n u → bytes (u .free) ≡ f → Fitting lost (u .page) f 127 u
+pub begins : (lost : ℕ → ℕ) (n f : ℕ) (u : Tables) → Asked lost n u → bytes (u .free) ≡ f → Fitting lost (u .fields .page) f (SPANS - 1) u
 begins lost n f u (k, (size, spare)) e =
     let c = k .ceilings in (
       k,
@@ -155,7 +156,7 @@ begins lost n f u (k, (size, spare)) e =
     )
 
 -- and what stands through them is what malloc starts from
-pub begins-again : (lost : ℕ → ℕ) (p f n : ℕ) (t : Tables) → Whole p n → Fitting lost p f 127 t → Asked lost n t
+pub begins-again : (lost : ℕ → ℕ) (p f n : ℕ) (t : Tables) → Whole p n → Fitting lost p f (SPANS - 1) t → Asked lost n t
 begins-again lost p f n t size w = (w .0, (rw (w .1 .1 .page) size, w .1 .0 .spans))
 
 -- A malloc drops no more than was free, and nothing where the free bytes suffice.
@@ -164,10 +165,10 @@ pub mallocs-losing : (lost : ℕ → ℕ) (f n s : ℕ) →
 unfolding mallocSteps
 mallocs-losing lost f n s =
     holds-named (λ u w.
-    let p = u .page in
+    let p = u .fields .page in
     holds-from (λ t e. rw e (begins lost n f u (w .0) (w .1)))
-    (holds-then (λ _. Fitting lost p f 127) (cleans-up lost p f 127)
-    (λ _. holds-then (Fitted lost p f 127 n) (fits lost p f 127 n s)
+    (holds-then (λ _. Fitting lost p f (SPANS - 1)) (cleans-up lost p f (SPANS - 1))
+    (λ _. holds-then (Fitted lost p f (SPANS - 1) n) (fits lost p f (SPANS - 1) n s)
     (λ x. holds-then (Handed lost f n) (gives-region lost p f n s (w .0 .1 .0) x) (hands-out lost f n s)))))
 
 pub mallocs : (lost : ℕ → ℕ) (n s : ℕ) → Holds (Asked lost n) (mallocSteps n s) (λ _. KeptBut lost) (Left lost)

@@ -1,5 +1,5 @@
 -- Moving pages: the page at each address of a list is taken out of the page table and put in, with its handle, at the next address of a range in hand.
--- What is left of the list and what is filled of the range are bare all along. Assumes nothing.
+-- What is left of the list and what is filled of the range are bare all along.
 use mathlib.Core.Path.{_≡_, refl, ap, _∙_}
 use mathlib.Core.Logic.{inl, inr}
 use mathlib.Core.List.{List, [], _∷_}
@@ -13,6 +13,7 @@ use Rattle.lists.specs.Order.{put, Rises, without}
 use Rattle.lists.specs.Walks.{sum}
 use Rattle.lists.proofs.Order.{sum-put, length-put, all-put}
 use Rattle.lists.proofs.Members.{member-above, all-without, rises-without, sum-without, length-without, rises-put, member-sum}
+use Rattle.tables.specs.Bounds.{SPANS}
 use Rattle.tables.specs.Values
 use Rattle.tables.specs.Values.{Tables, withPages}
 use Rattle.tables.specs.Steps.{_>>_, changePages}
@@ -60,8 +61,8 @@ module _ (lost hand before : ℕ → ℕ) (b : ℕ) (t : Tables) (w : Sound lost
   length-moved a = length-put at _ (without at b (t .pages)) ∙ length-unpaged
 
   -- one page moved to `a`, where none is: `before` and `after` are what is bare
-  sound-moved : (after : ℕ → ℕ) (a : ℕ) → Whole (t .page) a → pagesAt (t .pages) a ≡ 0 →
-      ((x : ℕ) → x % t .page ≡ 0 → before x + equal a x ≡ after x + equal b x) → Sound lost hand after (moved b a t)
+  sound-moved : (after : ℕ → ℕ) (a : ℕ) → Whole (t .fields .page) a → pagesAt (t .pages) a ≡ 0 →
+      ((x : ℕ) → x % t .fields .page ≡ 0 → before x + equal a x ≡ after x + equal b x) → Sound lost hand after (moved b a t)
   sound-moved after a whole empty bare =
       sound-pages w (put at new left)
       (all-put at _ new left whole (all-without at _ b (t .pages) (w .pages)))
@@ -137,7 +138,7 @@ module _ (lost hand : ℕ → ℕ) (p base a c : ℕ) (f : List FreeRegion) (b :
       e : at g ≡ b
       e = page-there .1 .1
 
-      bare : (x : ℕ) → x % t .page ≡ 0 →
+      bare : (x : ℕ) → x % t .fields .page ≡ 0 →
           keysAt (λ b. b) (b ∷ bs) x + within base (a - base) x + equal a x ≡ keysAt (λ b. b) bs x + within base (a + p - base) x + equal b x
       bare x h =
           let here : base + (a - base) ≡ a = omega (arith, w .past) in
@@ -146,7 +147,7 @@ module _ (lost hand : ℕ → ℕ) (p base a c : ℕ) (f : List FreeRegion) (b :
           omega (arith, within-page p a x (rw (w .page) at (w .sound .page)) (w .whole .aligned) (rw (w .page) at h))
 
   -- a page that is out of the tables when a map fails leaves them within their ceilings
-  ceilings-unpaged : c ≤ 128 → Ceilings (unpaged b t)
+  ceilings-unpaged : c ≤ SPANS → Ceilings (unpaged b t)
   ceilings-unpaged bound =
       record {
         pages = omega (arith, w .few .pages, length-unpaged lost hand _ b t (w .sound) (page-there .0) (page-there .1 .0) (page-there .1 .1));
@@ -156,7 +157,7 @@ module _ (lost hand : ℕ → ℕ) (p base a c : ℕ) (f : List FreeRegion) (b :
         roots = w .few .roots;
       }
 
-holds-moves : (lost hand : ℕ → ℕ) (p base a c : ℕ) (f : List FreeRegion) (bs : List ℕ) → c ≤ 128 →
+holds-moves : (lost hand : ℕ → ℕ) (p base a c : ℕ) (f : List FreeRegion) (bs : List ℕ) → c ≤ SPANS →
     Holds (Moving lost hand p base a c f bs) (movePages bs a) (λ _. Moving lost hand p base (a + length bs * p) c f []) (Left lost)
 holds-moves lost hand p base a c f [] bound =
     let e : a + 0 * p ≡ a = omega (arith, zero-mul p) in
@@ -165,7 +166,7 @@ holds-moves lost hand p base a c f (b ∷ bs) bound = holds-looked (λ u w. one 
   where
     one : (u : Tables) → Moving lost hand p base a c f (b ∷ bs) u →
         Holds (Moving lost hand p base (a + p) c f bs) (movePages bs (a + p)) (λ _. Moving lost hand p base (a + p + length bs * p) c f []) (Left lost) →
-        Holds (λ t. t ≡ u) (changePages (without at b) >> (mapPage a (handleAt b (u .pages)) >> movePages bs (a + u .page)))
+        Holds (λ t. t ≡ u) (changePages (without at b) >> (mapPage a (handleAt b (u .pages)) >> movePages bs (a + u .fields .page)))
         (λ _. Moving lost hand p base (a + length (b ∷ bs) * p) c f []) (Left lost)
     one u w next =
         let e : a + suc (length bs) * p ≡ a + p + length bs * p = omega (arith, suc-mul (length bs) p) in
@@ -180,7 +181,7 @@ holds-moves lost hand p base a c f (b ∷ bs) bound = holds-looked (λ u w. one 
 pub record Moved (lost hand : ℕ → ℕ) (p a n c : ℕ) (f : List FreeRegion) (t : Tables) : Type 0 where
   pub sound : Sound lost hand (within a n) t
   pub few : Few 0 c t
-  pub page : t .page ≡ p
+  pub page : t .fields .page ≡ p
   pub free : t .free ≡ f
 
 module _ (lost hand : ℕ → ℕ) (p a c : ℕ) (f : List FreeRegion) (zs : List Zombie) where
@@ -201,7 +202,7 @@ module _ (lost hand : ℕ → ℕ) (p a c : ℕ) (f : List FreeRegion) (zs : Lis
       pos : 0 < p
       pos = rw (w .page) at (w .sound .page)
 
-      bare : (x : ℕ) → x % t .page ≡ 0 → coverZombies zs x ≡ keysAt (λ b. b) (pagesIn p zs) x + within a (a - a) x
+      bare : (x : ℕ) → x % t .fields .page ≡ 0 → coverZombies zs x ≡ keysAt (λ b. b) (pagesIn p zs) x + within a (a - a) x
       bare x h =
           let nothing : a - a ≡ 0 = omega arith in
           rw nothing (omega (arith, within-none a x, count-startsOf (λ z. z .start .0) (λ z. z .size) p zs pos (w .ranges) x (rw (w .page) at h)))
@@ -214,13 +215,13 @@ module _ (lost hand : ℕ → ℕ) (p a c : ℕ) (f : List FreeRegion) (zs : Lis
       n : ℕ
       n = sum (λ z. z .size) zs
 
-      bare : (x : ℕ) → x % t .page ≡ 0 → 0 + within a (a + length (pagesIn p zs) * p - a) x ≡ within a n x
+      bare : (x : ℕ) → x % t .fields .page ≡ 0 → 0 + within a (a + length (pagesIn p zs) * p - a) x ≡ within a n x
       bare x h =
           let e : a + length (pagesIn p zs) * p - a ≡ n =
           omega (arith, length-startsOf (λ z. z .start .0) (λ z. z .size) p zs ranges) in
           rw e (omega arith)
 
-  pub moves-pages : c ≤ 128 → Holds (Movable lost hand p a c f zs) (movePages (pagesIn p zs) a) (λ _. Moved lost hand p a (sum (λ z. z .size) zs) c f) (Left lost)
+  pub moves-pages : c ≤ SPANS → Holds (Movable lost hand p a c f zs) (movePages (pagesIn p zs) a) (λ _. Moved lost hand p a (sum (λ z. z .size) zs) c f) (Left lost)
   moves-pages bound =
       holds-from (λ t w. (w .ranges, moving-first t w))
       (holds-given (λ ranges. holds-to (λ _ t. moved-last t ranges) (holds-moves lost hand p a a c f (pagesIn p zs) bound)))

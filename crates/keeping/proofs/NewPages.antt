@@ -1,5 +1,5 @@
 -- The missing pages. While they are made, the range taken is in hand and the pages from its start up to the next one are bare. A rollback takes out just
--- those, and puts the range back among the holes. Assumes nothing.
+-- those, and puts the range back among the holes.
 use mathlib.Core.Path.{_≡_, refl, _∙_, sym}
 use mathlib.Core.Logic.{_⊎_, inl, inr, ⊎-elim}
 use mathlib.Core.Bool.{Bool, false, _&&_}
@@ -30,6 +30,7 @@ use Rattle.lists.proofs.Members.{
 use Rattle.lists.proofs.Filters.{rises-filter}
 use Rattle.words.specs.Answers.{codeOf, valueOf, failed}
 use Rattle.words.specs.declared.Answer.{Answer}
+use Rattle.tables.specs.Bounds.{PAGES}
 use Rattle.tables.specs.Values.{Tables, page, withHoles, withPages}
 use Rattle.tables.specs.InsertHole.{insertHole}
 use Rattle.tables.specs.NewPages.{Room, at, mapPage, unmake, newPages, rollBack, isActive, created, makePages}
@@ -82,15 +83,15 @@ pub record Unmaking (lost : ℕ → ℕ) (s n : ℕ) (m : List Page) (t : Tables
 -- and there is room for the hole that the range becomes.
 record RollingBack (lost : ℕ → ℕ) (p f k s n : ℕ) (m : List Page) (t : Tables) : Type 0 where
   pub pages : Unmaking lost s n m t
-  pub start : Whole (t .page) s
-  pub size : Whole (t .page) n
+  pub start : Whole (t .fields .page) s
+  pub size : Whole (t .fields .page) n
   pub making : Making p f k s n t
 
 -- While pages are made the ceilings hold, whatever ends the call.
 pub making-ceilings : {p f k s n : ℕ} {t : Tables} → Making p f k s n t → Ceilings t
 making-ceilings w = few-ceilings (omega arith) (w .few)
 
-making-pages : {p f k s n : ℕ} {t : Tables} (j : ℕ) (l : List Page) → length l + j ≤ 256 → Making p f k s n t → Making p f j s n (withPages l t)
+making-pages : {p f k s n : ℕ} {t : Tables} (j : ℕ) (l : List Page) → length l + j ≤ PAGES → Making p f k s n t → Making p f j s n (withPages l t)
 making-pages j l h w =
     record {
       few = record { pages = h; spans = w .few .spans; zombies = w .few .zombies; holes = w .few .holes; roots = w .few .roots };
@@ -100,7 +101,7 @@ making-pages j l h w =
     }
 
 -- At what is in hand no free or live range lies, so that every page there is bare.
-pages-bare : {lost bare : ℕ → ℕ} {t : Tables} (s n : ℕ) → Sound lost (within s n) bare t → (x : ℕ) → x % t .page ≡ 0 → s ≤ x → x < s + n →
+pages-bare : {lost bare : ℕ → ℕ} {t : Tables} (s n : ℕ) → Sound lost (within s n) bare t → (x : ℕ) → x % t .fields .page ≡ 0 → s ≤ x → x < s + n →
     pagesAt (t .pages) x ≡ bare x
 pages-bare s n w x e p q = omega (arith, w .pagesMatch x e, sound-once w x, within-in s n x p q)
 
@@ -132,7 +133,7 @@ module _ {lost : ℕ → ℕ} {s n : ℕ} {g : Page} {m : List Page} {t : Tables
 
 -- One more page is to be made, the one at `a`.
 module _ {lost : ℕ → ℕ} {p f k s n a : ℕ} {t : Tables} (w : PagesTo lost p f (suc k) s n a t) where
-  pub next-whole : Whole (t .page) a
+  pub next-whole : Whole (t .fields .page) a
   next-whole =
       let e : s + (a - s) ≡ a = omega (arith, w .place .0) in
       rw e at (whole-past (a - s) (w .start) (w .place .1))
@@ -143,9 +144,9 @@ module _ {lost : ℕ → ℕ} {p f k s n a : ℕ} {t : Tables} (w : PagesTo lost
   next-ends : a + p - s ≡ a - s + p
   next-ends = omega (arith, w .place .0)
 
-  pub within-next : (x : ℕ) → x % t .page ≡ 0 → within s (a + p - s) x ≡ within s (a - s) x + equal a x
+  pub within-next : (x : ℕ) → x % t .fields .page ≡ 0 → within s (a + p - s) x ≡ within s (a - s) x + equal a x
   within-next x e =
-      let q : t .page ≡ p = w .making .known .page in
+      let q : t .fields .page ≡ p = w .making .known .page in
       let b : s + (a - s) ≡ a = omega (arith, w .place .0) in
       let j : within s (a - s + p) x ≡ within s (a - s) x + within a p x = rw b at (within-join s (a - s) p x) in
       rw next-ends (j ∙ rw (within-page p a x (rw q at (w .sound .page)) (rw q at (next-whole .aligned)) (rw q at e)))
@@ -175,12 +176,12 @@ module _ (lost : ℕ → ℕ) (p f : ℕ) where
   unmakes k s n g m =
       holds-looked (λ u w.
       holds-from (λ t e. rw e w)
-      (holds-then (λ _. RollingBack lost p f k s n (g ∷ m)) (holds-try (drives-unmap (at g) (u .page)) (λ t _. tt)) (λ _.
+      (holds-then (λ _. RollingBack lost p f k s n (g ∷ m)) (holds-try (drives-unmap (at g) (u .fields .page)) (λ t _. tt)) (λ _.
       holds-then (λ _. RollingBack lost p f k s n m) (holds-change _ (rolls-on k s n g m)) (λ _.
       holds-try (drives-release (g .handle .0)) (λ t _. tt)))))
 
   -- The new pages are those that are bare.
-  pub pages-new : (k : ℕ) (o : Room) (a : ℕ) (t : Tables) → PagesTo lost p f k (o .start) (o .size) a t → (x : ℕ) → x % t .page ≡ 0 →
+  pub pages-new : (k : ℕ) (o : Room) (a : ℕ) (t : Tables) → PagesTo lost p f k (o .start) (o .size) a t → (x : ℕ) → x % t .fields .page ≡ 0 →
       within (o .start) (a - o .start) x ≡ pagesAt (newPages o a (t .pages)) x
   pages-new k o a t w x e =
       ⊎-elim
@@ -264,7 +265,7 @@ module _ (lost : ℕ → ℕ) (p f : ℕ) where
     page-mapped : PagesTo lost p f k s n (a + p) (withPages (put at (page a h) (t .pages)) t)
     page-mapped =
         let l = put at (page a h) (t .pages) in
-        let q : t .page ≡ p = w .making .known .page in
+        let q : t .fields .page ≡ p = w .making .known .page in
         record {
           sound =
               sound-pages (w .sound) l (all-put at _ (page a h) (t .pages) (next-whole w) (w .sound .pages))
@@ -273,7 +274,7 @@ module _ (lost : ℕ → ℕ) (p f : ℕ) where
               (λ i. omega (arith, sum-put at (λ (g : Page). equal (g .handle .0) i) (page a h) (t .pages), handles-once i));
           start = w .start;
           size = w .size;
-          place = (omega (arith, w .place .0), rw (next-ends w) (aligned-add (t .page) (a - s) p (w .place .1) (rw q (mod-self p))));
+          place = (omega (arith, w .place .0), rw (next-ends w) (aligned-add (t .fields .page) (a - s) p (w .place .1) (rw q (mod-self p))));
           fits = next-room w;
           making = making-pages k l (omega (arith, length-put at (page a h) (t .pages), w .making .few .pages)) (w .making);
         }
@@ -294,15 +295,15 @@ module _ (lost : ℕ → ℕ) (p f : ℕ) where
       let n = o .size in
       let e : a + suc k * p ≡ a + p + k * p = omega (arith, suc-mul k p) in
       rw e (holds-looked (λ u w.
-      let q : u .page ≡ p = w .making .known .page in
+      let q : u .fields .page ≡ p = w .making .known .page in
       holds-from (λ t e. rw e w)
-      (holds-then (λ _. PagesTo lost p f (suc k) s n a) (holds-drive (drives-create (u .page)) (λ t _. tt)) (λ x.
+      (holds-then (λ _. PagesTo lost p f (suc k) s n a) (holds-drive (drives-create (u .fields .page)) (λ t _. tt)) (λ x.
       holds-then _ (checks-created (suc k) o a x) (λ _.
       holds-then (λ _. PagesTo lost p f k s n (a + p)) (maps-page k s n a (valueOf x)) (λ _.
       rw q (makes-pages k o (a + p))))))))
 
 -- Before the first page nothing is bare.
-pub pages-begin : (lost : ℕ → ℕ) (p f k s n : ℕ) (t : Tables) → Sound lost (within s n) none t → Whole (t .page) s → Whole (t .page) n → k * p ≤ n →
+pub pages-begin : (lost : ℕ → ℕ) (p f k s n : ℕ) (t : Tables) → Sound lost (within s n) none t → Whole (t .fields .page) s → Whole (t .fields .page) n → k * p ≤ n →
     Making p f k s n t → PagesTo lost p f k s n s t
 pages-begin lost p f k s n t w start size h making =
     let z : s - s ≡ 0 = omega arith in
@@ -310,7 +311,7 @@ pages-begin lost p f k s n t w start size h making =
       sound = rw z (sound-as w (λ x. refl) (λ x. sym (within-none s x)));
       start = start;
       size = size;
-      place = (omega arith, rw z (zero-mod (t .page)));
+      place = (omega arith, rw z (zero-mod (t .fields .page)));
       fits = omega arith;
       making = making;
     }
@@ -333,5 +334,5 @@ module _ (lost : ℕ → ℕ) (p f s n m : ℕ) (t : Tables) (w : PagesTo lost p
   pub made-sound : Sound lost (λ x. within (s + m) (n - m) x + within s m x) (λ x. none x + within s m x) t
   made-sound = sound-as (w .sound) (λ x. omega (arith, within-cut s n m x made-within)) (λ x. rw made (omega arith))
 
-  pub made-whole : 0 < m → WholeRange (t .page) s m
+  pub made-whole : 0 < m → WholeRange (t .fields .page) s m
   made-whole h = record { start = w .start; size = record { positive = h; aligned = rw made at (w .place .1) } }

@@ -1,4 +1,4 @@
--- Open: a pool with no tables is kept, its first root is one hole, and initial pages are made there as room is made in any pool. Assumes nothing.
+-- Open: a pool with no tables is kept, its first root is one hole, and initial pages are made there as room is made in any pool.
 use mathlib.Core.Path.{_≡_, refl, _∙_}
 use mathlib.Core.Logic.{inl}
 use mathlib.Core.Bool.{false, not}
@@ -12,6 +12,7 @@ use lib.ListN.{length}
 use Rattle.lists.proofs.Tests.{neither}
 use Rattle.lists.proofs.Walks.{sum-some}
 use Rattle.lists.proofs.Members.{member-all, sum-member}
+use Rattle.tables.specs.Bounds.{PAGES}
 use Rattle.tables.specs.Values.{Tables, address, noTables}
 use Rattle.tables.specs.Steps.{_>>_}
 use Rattle.tables.specs.Driver.{must, sync}
@@ -43,13 +44,13 @@ configured granularity override va initial e =
     let a = neither (eqb granularity 0) _ e .1 in
     let b = neither (not (eqb (override % granularity) 0)) _ a .1 in
     let c = neither (not (allowed page va)) _ b in
-    let d = neither (ltb 256 initial) (ltb va (initial * page)) (c .1) in
+    let d = neither (ltb PAGES initial) (ltb va (initial * page)) (c .1) in
     let f = allowed-of page va (not-false (allowed page va) (c .0)) in
     record {
       positive = f .0;
       whole = f .1 .0;
       small = f .1 .1;
-      few = ltb-false 256 initial (d .0);
+      few = ltb-false PAGES initial (d .0);
       fits = ltb-false va (initial * page) (d .1);
     }
 
@@ -134,7 +135,7 @@ roomed-kept : (n s : ℕ) (r : FreeRegion) (t : Tables) → Roomed none 0 n s r 
 roomed-kept n s r t w =
     record {
       kept = record { sound = sound-undropped (within (w .dropped .0) (w .dropped .1)) (w .sound) nothing; ceilings = few-ceilings (omega arith) (w .few) };
-      rooted = sum-some (λ b. within (b .0) (t .va) a) (t .roots) held;
+      rooted = sum-some (λ b. within (b .0) (t .fields .va) a) (t .roots) held;
     }
   where
     nothing : (x : ℕ) → within (w .dropped .0) (w .dropped .1) x ≡ 0
@@ -143,9 +144,9 @@ roomed-kept n s r t w =
     a : ℕ
     a = r .start .0
 
-    held : 0 < coverRoots (t .va) (t .roots) a
+    held : 0 < coverRoots (t .fields .va) (t .roots) a
     held =
-        let whole = member-all (λ q. WholeRange (t .page) (q .start .0) (q .size)) r (t .free) (w .member) (w .sound .free) in
+        let whole = member-all (λ q. WholeRange (t .fields .page) (q .start .0) (q .size)) r (t .free) (w .member) (w .sound .free) in
         omega (
           arith,
           w .sound .covered a,

@@ -1,5 +1,5 @@
 -- The starts of the pages of whole ranges: they are as many as the sizes say, at aligned addresses they count as the ranges cover, and for disjoint
--- ranges in order they rise. Assumes nothing.
+-- ranges in order they rise.
 use mathlib.Core.Path.{refl, _≡_, ap, _∙_, sym}
 use mathlib.Core.List.{List, [], _∷_}
 use Prim.Native.Nat.{ℕ, zero, suc, _+_, _*_, _/_, _%_, _≤_, _<_}

@@ -1,5 +1,5 @@
 -- Pulling regions: the part taken of a region leaves the free table and joins the zombies, a rest goes back in its place, and so no address changes
--- how often it is covered, while the pages of the part stay active. Assumes nothing.
+-- how often it is covered, while the pages of the part stay active.
 use mathlib.Core.Path.{_≡_, refl, ap, _∙_}
 use mathlib.Core.Logic.{⊎-elim}
 use mathlib.Core.List.{List, [], _∷_, _++_}
@@ -13,6 +13,7 @@ use Rattle.lists.specs.Walks.{sum}
 use Rattle.lists.proofs.Tests.{all-append, cases-lt}
 use Rattle.lists.proofs.Walks.{sum-append}
 use Rattle.lists.proofs.Members.{member-all, all-members, all-without, rises-without, sum-without, length-without, sum-member, without-keeps}
+use Rattle.tables.specs.Bounds.{SPANS}
 use Rattle.tables.specs.Values.{Tables, zombie, withFree, withZombies}
 use Rattle.tables.specs.Steps.{_>>=_, give, change}
 use Rattle.tables.specs.InsertFree.{from, bytes, putRest, withoutFree}
@@ -51,10 +52,10 @@ module _ (lost hand bare : ℕ → ℕ) (t : Tables) (w : Sound lost hand bare t
   -- no other region starts inside `r`
   none-inside : (n : ℕ) → n < r .size → All (λ q. from q ≡ from r + n → ⊥) (withoutFree (from r) (t .free))
   none-inside n lt =
-      none-starts from (λ q. q .size) (t .page) (from r + n) (withoutFree (from r) (t .free)) (all-without from _ (from r) (t .free) (w .free))
+      none-starts from (λ q. q .size) (t .fields .page) (from r + n) (withoutFree (from r) (t .free)) (all-without from _ (from r) (t .free) (w .free))
       (sound-alone w r m (from r + n) (omega arith) (omega arith) .0)
 
-  sound-pulled : (n : ℕ) → 0 < n → n ≤ r .size → n % t .page ≡ 0 → Sound lost hand (λ x. bare x + within (from r) n x) (pulled n r t)
+  sound-pulled : (n : ℕ) → 0 < n → n ≤ r .size → n % t .fields .page ≡ 0 → Sound lost hand (λ x. bare x + within (from r) n x) (pulled n r t)
   sound-pulled n pos le whole =
       let out : Sound lost (λ x. hand x + within (from r) n x) (λ x. bare x + within (from r) n x) (withFree (putRest n r left) t) =
       sound-free w (putRest n r left)
@@ -72,11 +73,11 @@ module _ (lost hand bare : ℕ → ℕ) (t : Tables) (w : Sound lost hand bare t
       left : List FreeRegion
       left = withoutFree (from r) (t .free)
 
-      wide : WholeRange (t .page) (from r) (r .size)
-      wide = member-all (λ q. WholeRange (t .page) (from q) (q .size)) r (t .free) m (w .free)
+      wide : WholeRange (t .fields .page) (from r) (r .size)
+      wide = member-all (λ q. WholeRange (t .fields .page) (from q) (q .size)) r (t .free) m (w .free)
 
-      id : r .id .0 < t .counter
-      id = member-all (λ q. q .id .0 < t .counter) r (t .free) m (w .freeIds)
+      id : r .id .0 < t .fields .counter
+      id = member-all (λ q. q .id .0 < t .fields .counter) r (t .free) m (w .freeIds)
 
       free : (x : ℕ) → within (from r) n x + coverFree (putRest n r left) x ≡ coverFree (t .free) x
       free x = cover-putRest n r left le x ∙ without-region (λ q. within (q .start .0) (q .size) x)
@@ -91,7 +92,7 @@ pub record Pulled (lost hand bare : ℕ → ℕ) (p lacks c : ℕ) (keep l : Lis
   pub total : sum (λ z. z .size) zs ≡ lacks
   pub whole : All (λ z. WholeRange p (z .start .0) (z .size)) zs
   pub few : Few 0 c t
-  pub page : t .page ≡ p
+  pub page : t .fields .page ≡ p
   pub among : (x : ℕ) → bare x + coverZombies zs x ≤ coverZombies (t .zombies) x
   pub kept : All (λ r. Member r (t .free)) keep
   pub fewer : lacks ≡ bytes l → length (t .free) + length (t .live) + length l ≤ c
@@ -161,11 +162,11 @@ module _ (lost hand bare : ℕ → ℕ) (p lacks c : ℕ) (keep : List FreeRegio
       here : Member r (t .free)
       here = w .members .0
 
-      page : t .page ≡ p
+      page : t .fields .page ≡ p
       page = w .lacking .1
 
-      wide : WholeRange (t .page) (from r) (r .size)
-      wide = member-all (λ q. WholeRange (t .page) (from q) (q .size)) r (t .free) here (w .sound .free)
+      wide : WholeRange (t .fields .page) (from r) (r .size)
+      wide = member-all (λ q. WholeRange (t .fields .page) (from q) (q .size)) r (t .free) here (w .sound .free)
 
       whole : n % p ≡ 0
       whole = aligned-min p lacks (r .size) (w .lacking .0) (rw page at (wide .size .aligned))
@@ -189,7 +190,7 @@ module _ (lost hand bare : ℕ → ℕ) (p lacks c : ℕ) (keep : List FreeRegio
       aside q k e = omega (arith, w .apart (from r), once, ap (λ a. equal a (from r)) e, sum-member (λ q. equal (from q) (from r)) q keep k)
 
   -- a region that is out of the tables when a wait fails leaves them within their ceilings
-  ceilings-out : (t : Tables) → c ≤ 128 → Became (Pulling lost hand bare p lacks c keep (r ∷ l)) (outOf r) t → Ceilings t
+  ceilings-out : (t : Tables) → c ≤ SPANS → Became (Pulling lost hand bare p lacks c keep (r ∷ l)) (outOf r) t → Ceilings t
   ceilings-out t bound (o, (w, e)) =
       rw e (record {
         pages = omega (arith, w .few .pages);
@@ -207,7 +208,7 @@ module _ (lost hand bare : ℕ → ℕ) (p lacks c : ℕ) (keep : List FreeRegio
   taken-part t w =
       let here : Member r (t .free) = w .members .0 in
       let wide : WholeRange p (from r) (r .size) =
-      rw (w .lacking .1) at (member-all (λ q. WholeRange (t .page) (from q) (q .size)) r (t .free) here (w .sound .free)) in
+      rw (w .lacking .1) at (member-all (λ q. WholeRange (t .fields .page) (from q) (q .size)) r (t .free) here (w .sound .free)) in
       let some : 0 < takenOf lacks r = omega (arith, wide .size .positive) in
       let whole = aligned-min p lacks (r .size) (w .lacking .0) (wide .size .aligned) in (
         refl,
@@ -217,7 +218,7 @@ module _ (lost hand bare : ℕ → ℕ) (p lacks c : ℕ) (keep : List FreeRegio
         ),
       )
 
-  pub holds-pullOne : (s : ℕ) → c ≤ 128 → Holds (Pulling lost hand bare p lacks c keep (r ∷ l)) (pullOne s lacks r)
+  pub holds-pullOne : (s : ℕ) → c ≤ SPANS → Holds (Pulling lost hand bare p lacks c keep (r ∷ l)) (pullOne s lacks r)
       (λ z t. Taken z × Pulling lost hand (λ x. bare x + within (from r) (takenOf lacks r) x) p (lacks - takenOf lacks r) (spansAfter c lacks r) keep l t)
       (Left lost)
   unfolding pullOne
@@ -279,10 +280,10 @@ pulled-none lost hand bare p lacks c keep l t z w =
     no-region : (l : List FreeRegion) → All (λ r. Member r (t .free)) l → bytes l ≡ 0 → length l ≡ 0
     no-region [] a e = refl
     no-region (r ∷ l) a e =
-        absurd (omega (arith, member-all (λ q. WholeRange (t .page) (from q) (q .size)) r (t .free) (a .0) (w .sound .free) .size .positive))
+        absurd (omega (arith, member-all (λ q. WholeRange (t .fields .page) (from q) (q .size)) r (t .free) (a .0) (w .sound .free) .size .positive))
 
 -- Pulling as much as lacks, in the order given.
-pub pulls : (lost hand bare : ℕ → ℕ) (p s lacks c : ℕ) (keep l : List FreeRegion) → c ≤ 128 →
+pub pulls : (lost hand bare : ℕ → ℕ) (p s lacks c : ℕ) (keep l : List FreeRegion) → c ≤ SPANS →
     Holds (Pulling lost hand bare p lacks c keep l) (pull l s lacks) (Pulled lost hand bare p lacks c keep l) (Left lost)
 pulls lost hand bare p s lacks c keep [] bound =
     holds-from (λ t w. pulled-none lost hand bare p lacks c keep [] t (omega (arith, w .enough)) w) (holds-give [])

@@ -1,13 +1,14 @@
 -- Pull in: regions are pulled as far as bytes lack, their pages are moved to a range in hand, and that range is inserted as free. Pulling leaves a span
--- for it, or a region was pulled whole. Assumes nothing.
+-- for it, or a region was pulled whole.
 use mathlib.Core.Path.{_≡_, refl, ap}
 use mathlib.Core.Logic.{⊎-elim}
 use mathlib.Core.List.{List, []}
-use Prim.Native.Nat.{ℕ, _+_, _≤_}
+use Prim.Native.Nat.{ℕ, _+_, _-_, _≤_}
 use native.Mathlib.Omega.{arith}
 use lib.ListN.{length}
 use Rattle.lists.specs.Tests.{All, Member}
 use Rattle.lists.specs.Walks.{sum}
+use Rattle.tables.specs.Bounds.{SPANS}
 use Rattle.tables.specs.Values.{Tables}
 use Rattle.tables.specs.Steps.{_>>_}
 use Rattle.tables.specs.Driver.{must, access}
@@ -43,12 +44,12 @@ module _ (lost rest : ℕ → ℕ) (p lacks c : ℕ) (keep others : List FreeReg
   abbrev hand : ℕ → ℕ
   hand = filling rest lacks o
 
-  pub spare-most : Spare lacks c others → c ≤ 128
+  pub spare-most : Spare lacks c others → c ≤ SPANS
   spare-most w = ⊎-elim (λ e. omega arith) (λ e. e .1 .1) w
 
   module _ (range : WholeRange p to lacks) (spare : Spare lacks c others) where
     pub pulled-spare : (zs : List Zombie) (t : Tables) → Pulled lost hand none p lacks c keep (order others o) zs t →
-        Pulled lost hand none p lacks 127 keep [] zs t
+        Pulled lost hand none p lacks (SPANS - 1) keep [] zs t
     pulled-spare zs t w =
         record {
           sound = w .sound;
@@ -68,7 +69,7 @@ module _ (lost rest : ℕ → ℕ) (p lacks c : ℕ) (keep others : List FreeReg
           fewer = λ e. absurd (omega (arith, range .size .positive));
         }
       where
-        spans : Spare lacks c others → length (t .free) + length (t .live) ≤ 127
+        spans : Spare lacks c others → length (t .free) + length (t .live) ≤ SPANS - 1
         spans e =
             ⊎-elim
             (λ h. omega (arith, w .few .spans))
@@ -83,13 +84,13 @@ module _ (lost rest : ℕ → ℕ) (p lacks c : ℕ) (keep others : List FreeReg
             e
 
     -- the pages of the parts pulled can be moved into the range
-    pub pulled-fills : (zs : List Zombie) (u : Tables) → Pulled lost hand none p lacks 127 keep [] zs u → Movable lost hand p to 127 (u .free) zs u
+    pub pulled-fills : (zs : List Zombie) (u : Tables) → Pulled lost hand none p lacks (SPANS - 1) keep [] zs u → Movable lost hand p to (SPANS - 1) (u .free) zs u
     pulled-fills zs u w =
-        pulled-movable lost hand p to 127 (u .free) zs lacks keep [] u w refl (range .start)
+        pulled-movable lost hand p to (SPANS - 1) (u .free) zs lacks keep [] u w refl (range .start)
         (λ x le lt. omega (arith, sound-once (w .sound) x, within-in to lacks x le lt))
 
     -- the pages are there
-    pub moved-inserting : (n : ℕ) (l : List FreeRegion) (t : Tables) → n ≡ lacks → Moved lost hand p to n 127 l t →
+    pub moved-inserting : (n : ℕ) (l : List FreeRegion) (t : Tables) → n ≡ lacks → Moved lost hand p to n (SPANS - 1) l t →
         Inserting lost rest none p (bytes l) to lacks l t
     moved-inserting n l t e w =
         record {
@@ -106,15 +107,15 @@ module _ (lost rest : ℕ → ℕ) (p lacks c : ℕ) (keep others : List FreeReg
         holds-then (Pulled lost hand none p lacks c keep (order others o)) (pulls lost hand none p (o .stream) lacks c keep (order others o) (spare-most spare))
         (λ zs. holds-looked (λ u w.
         let v = pulled-spare zs u w in
-        holds-from {P = Movable lost hand p to 127 (u .free) zs} (λ t e. rw e (pulled-fills zs u v)) (rw (w .page) (fills zs (u .free) (v .total) (v .kept)))))
+        holds-from {P = Movable lost hand p to (SPANS - 1) (u .free) zs} (λ t e. rw e (pulled-fills zs u v)) (rw (w .page) (fills zs (u .free) (v .total) (v .kept)))))
       where
         fills : (zs : List Zombie) (l : List FreeRegion) → sum (λ z. z .size) zs ≡ lacks → All (λ q. Member q l) keep →
-            Holds (Movable lost hand p to 127 l zs) (movePages (pagesIn p zs) to >> (must (access to lacks) >> insertFree to lacks (o .stream)))
+            Holds (Movable lost hand p to (SPANS - 1) l zs) (movePages (pagesIn p zs) to >> (must (access to lacks) >> insertFree to lacks (o .stream)))
             (PulledIn lost rest p to lacks (o .stream) keep) (Left lost)
         fills zs l total kept =
             let n = sum (λ z. z .size) zs in
-            holds-then (λ _. Moved lost hand p to n 127 l) (moves-pages lost hand p to 127 l zs (omega arith))
-            (λ _. holds-then (λ _. Moved lost hand p to n 127 l)
+            holds-then (λ _. Moved lost hand p to n (SPANS - 1) l) (moves-pages lost hand p to (SPANS - 1) l zs (omega arith))
+            (λ _. holds-then (λ _. Moved lost hand p to n (SPANS - 1) l)
             (holds-must (drives-access to lacks) (λ t m. tt) (λ k t m. few-ceilings (omega arith) (m .few)))
             (λ _. holds-from (λ t m. moved-inserting n l t total m)
             (holds-to (λ r t i. record { before = l; inserted = i; kept = kept })

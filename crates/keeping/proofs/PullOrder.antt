@@ -1,5 +1,5 @@
 -- The order in which regions are pulled only rearranges them: whatever is counted counts the same, so what is to be pulled has distinct starts and
--- all its bytes. Assumes nothing.
+-- all its bytes.
 use mathlib.Core.Path.{_≡_, sym, _∙_}
 use mathlib.Core.List.{List, [], _∷_}
 use Prim.Native.Nat.{ℕ, _+_, _≤_, _%_}
@@ -44,7 +44,7 @@ module _ (s : ℕ) (l : List FreeRegion) where
       (all-sorted (λ r. r .id .0) P (othersOf s l) (all-filter P _ l a))
 
 -- What pulling starts from: the free table is made up of the regions `l`, which have all that lacks, and of `keep`.
-module _ (lost hand : ℕ → ℕ) (p s lacks c : ℕ) (t : Tables) (sound : Sound lost hand none t) (few : Few 0 c t) (page : t .page ≡ p) (aligned : lacks % p ≡ 0) where
+module _ (lost hand : ℕ → ℕ) (p s lacks c : ℕ) (t : Tables) (sound : Sound lost hand none t) (few : Few 0 c t) (page : t .fields .page ≡ p) (aligned : lacks % p ≡ 0) where
   pulling-first : (keep l : List FreeRegion) → All (λ r. Member r (t .free)) keep → All (λ r. Member r (t .free)) l →
       ((f : FreeRegion → ℕ) → sum f l + sum f keep ≡ sum f (t .free)) → Pullable (withFree l t) → lacks ≤ bytes l →
       Pulling lost hand none p lacks c keep (pullOrder s l) t

@@ -1,4 +1,4 @@
--- The ranges of the four tables as one list: what they cover, and what holds of each of them. Assumes nothing.
+-- The ranges of the four tables as one list: what they cover, and what holds of each of them.
 use mathlib.Core.Path.{_≡_, _∙_}
 use mathlib.Core.List.{List, map, _++_}
 use Prim.Native.Nat.{ℕ, _+_}
@@ -43,7 +43,7 @@ abbrev pub tablesAt : Tables → ℕ → ℕ
 tablesAt t x = coverFree (t .free) x + coverLive (t .live) x + coverHoles (t .holes) x + coverZombies (t .zombies) x
 
 abbrev pub rootsAt : Tables → ℕ → ℕ
-rootsAt t x = coverRoots (t .va) (t .roots) x
+rootsAt t x = coverRoots (t .fields .va) (t .roots) x
 
 module _ (t : Tables) where
   pub cover-spans : (x : ℕ) → coverSpans (spans t) x ≡ coverFree (t .free) x + coverLive (t .live) x

@@ -1,5 +1,5 @@
 -- What insert free merges: where no address is covered twice, at most one region ends where a range starts and at most one starts where it ends, so
--- the merged region covers what they and the range covered. Assumes nothing.
+-- the merged region covers what they and the range covered.
 use mathlib.Core.Path.{_≡_, refl, ap}
 use mathlib.Core.Logic.{_⊎_, inl, inr, ⊎-elim}
 use mathlib.Core.Bool.{Bool, true, false, _&&_, _||_}

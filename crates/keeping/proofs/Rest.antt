@@ -1,5 +1,5 @@
 -- The rest of a free region whose first bytes are taken: with them it covers what the region covered, it takes the region's id, and the table stays in
--- order with it put back. Assumes nothing.
+-- order with it put back.
 use mathlib.Core.Path.{_≡_}
 use mathlib.Core.Logic.{⊎-elim}
 use mathlib.Core.List.{List}

@@ -1,9 +1,9 @@
 -- How a change of one table, or of the free and the live together, keeps the tables sound: only the fields that speak of it are to be shown anew, and
--- the two equations by what the change moves between the table and what is in hand or bare. Assumes nothing.
+-- the two equations by what the change moves between the table and what is in hand or bare.
 use mathlib.Core.Path.{_≡_, refl}
 use mathlib.Core.Logic.{⊎-elim}
 use mathlib.Core.List.{List, [], _∷_, _++_}
-use Prim.Native.Nat.{ℕ, _+_, _-_, _≤_, _<_, _%_, _^_}
+use Prim.Native.Nat.{ℕ, _+_, _-_, _≤_, _<_, _%_}
 use native.Mathlib.Omega.{arith}
 use lib.ListN.{length, getD}
 use Rattle.lists.specs.Tests.{All, Member}
@@ -13,6 +13,7 @@ use Rattle.lists.proofs.Walks.{sum-append}
 use Rattle.lists.proofs.Members.{member-all, member-at, sum-member, sum-without, without-keeps}
 use Rattle.lists.proofs.Keys.{rises-next}
 use Rattle.words.specs.declared.Address.{Address}
+use Rattle.tables.specs.Bounds.{END}
 use Rattle.tables.specs.Values.{Tables, address, withFree, withLive, withHoles, withZombies, withPages, withRoots, withCounter}
 use Rattle.tables.specs.declared.FreeRegion.{FreeRegion}
 use Rattle.tables.specs.declared.LiveBuffer.{LiveBuffer}
@@ -66,14 +67,14 @@ sound-undropped gone s e = sound-lost s (λ x. omega (arith, e x))
 
 -- `rs` and `bs` in place of the free regions and the live buffers of `t`: with what is then in hand, or bare, they cover what was covered.
 pub record Spans (hand bare hand′ bare′ : ℕ → ℕ) (rs : List FreeRegion) (bs : List LiveBuffer) (t : Tables) : Type 0 where
-  pub free : All (λ r. WholeRange (t .page) (r .start .0) (r .size)) rs
-  pub live : All (λ b. WholeRange (t .page) (b .start .0) (b .size)) bs
+  pub free : All (λ r. WholeRange (t .fields .page) (r .start .0) (r .size)) rs
+  pub live : All (λ b. WholeRange (t .fields .page) (b .start .0) (b .size)) bs
   pub freeRises : Rises (λ r. r .start .0) 0 rs
   pub liveRises : Rises (λ b. b .start .0) 0 bs
   pub covered : (x : ℕ) → coverFree rs x + coverLive bs x + hand′ x ≡ coverFree (t .free) x + coverLive (t .live) x + hand x
-  pub bared : (x : ℕ) → x % t .page ≡ 0 → coverFree rs x + coverLive bs x + bare′ x ≡ coverFree (t .free) x + coverLive (t .live) x + bare x
+  pub bared : (x : ℕ) → x % t .fields .page ≡ 0 → coverFree rs x + coverLive bs x + bare′ x ≡ coverFree (t .free) x + coverLive (t .live) x + bare x
   pub ids : (i : ℕ) → idsAt rs i ≤ 1
-  pub freeIds : All (λ r. r .id .0 < t .counter) rs
+  pub freeIds : All (λ r. r .id .0 < t .fields .counter) rs
 
 pub sound-spans : {lost hand bare hand′ bare′ : ℕ → ℕ} {rs : List FreeRegion} {bs : List LiveBuffer} {t : Tables} →
     Sound lost hand bare t → Spans hand bare hand′ bare′ rs bs t → Sound lost hand′ bare′ (withLive bs (withFree rs t))
@@ -130,10 +131,10 @@ module _ {lost hand bare : ℕ → ℕ} {t : Tables} (s : Sound lost hand bare t
       (λ p. p)
       (cases-lt (from q) (upto r))
 
-  pub sound-free : {hand′ bare′ : ℕ → ℕ} (l : List FreeRegion) → All (λ r. WholeRange (t .page) (r .start .0) (r .size)) l →
+  pub sound-free : {hand′ bare′ : ℕ → ℕ} (l : List FreeRegion) → All (λ r. WholeRange (t .fields .page) (r .start .0) (r .size)) l →
       Rises (λ r. r .start .0) 0 l → ((x : ℕ) → coverFree l x + hand′ x ≡ coverFree (t .free) x + hand x) →
-      ((x : ℕ) → x % t .page ≡ 0 → coverFree l x + bare′ x ≡ coverFree (t .free) x + bare x) → ((i : ℕ) → idsAt l i ≤ 1) →
-      All (λ r. r .id .0 < t .counter) l → Sound lost hand′ bare′ (withFree l t)
+      ((x : ℕ) → x % t .fields .page ≡ 0 → coverFree l x + bare′ x ≡ coverFree (t .free) x + bare x) → ((i : ℕ) → idsAt l i ≤ 1) →
+      All (λ r. r .id .0 < t .fields .counter) l → Sound lost hand′ bare′ (withFree l t)
   sound-free l whole rises covers matches once ids =
       sound-spans s
       (record {
@@ -147,7 +148,7 @@ module _ {lost hand bare : ℕ → ℕ} {t : Tables} (s : Sound lost hand bare t
         freeIds = ids;
       })
 
-  pub sound-holes : {hand′ : ℕ → ℕ} (l : List Hole) → All (λ h. WholeRange (t .page) (h .start .0) (h .size)) l → Apart 0 (2 ^ 63) l →
+  pub sound-holes : {hand′ : ℕ → ℕ} (l : List Hole) → All (λ h. WholeRange (t .fields .page) (h .start .0) (h .size)) l → Apart 0 END l →
       ((x : ℕ) → coverHoles l x + hand′ x ≡ coverHoles (t .holes) x + hand x) → Sound lost hand′ bare (withHoles l t)
   sound-holes l whole apart covers =
       record {
@@ -173,8 +174,8 @@ module _ {lost hand bare : ℕ → ℕ} {t : Tables} (s : Sound lost hand bare t
         zombieIds = s .zombieIds;
       }
 
-  pub sound-zombies : {hand′ : ℕ → ℕ} (l : List Zombie) → All (λ z. WholeRange (t .page) (z .start .0) (z .size)) l →
-      ((x : ℕ) → coverZombies l x + hand′ x ≡ coverZombies (t .zombies) x + hand x) → All (λ z. z .id .0 < t .counter) l →
+  pub sound-zombies : {hand′ : ℕ → ℕ} (l : List Zombie) → All (λ z. WholeRange (t .fields .page) (z .start .0) (z .size)) l →
+      ((x : ℕ) → coverZombies l x + hand′ x ≡ coverZombies (t .zombies) x + hand x) → All (λ z. z .id .0 < t .fields .counter) l →
       Sound lost hand′ bare (withZombies l t)
   sound-zombies l whole covers ids =
       record {
@@ -200,8 +201,8 @@ module _ {lost hand bare : ℕ → ℕ} {t : Tables} (s : Sound lost hand bare t
         zombieIds = ids;
       }
 
-  pub sound-pages : {bare′ : ℕ → ℕ} (l : List Page) → All (λ g. Whole (t .page) (g .start .0)) l → Rises (λ g. g .start .0) 0 l →
-      ((x : ℕ) → x % t .page ≡ 0 → pagesAt l x + bare x ≡ pagesAt (t .pages) x + bare′ x) → ((h : ℕ) → handlesAt l h ≤ 1) →
+  pub sound-pages : {bare′ : ℕ → ℕ} (l : List Page) → All (λ g. Whole (t .fields .page) (g .start .0)) l → Rises (λ g. g .start .0) 0 l →
+      ((x : ℕ) → x % t .fields .page ≡ 0 → pagesAt l x + bare x ≡ pagesAt (t .pages) x + bare′ x) → ((h : ℕ) → handlesAt l h ≤ 1) →
       Sound lost hand bare′ (withPages l t)
   sound-pages l whole rises matches once =
       record {
@@ -227,9 +228,9 @@ module _ {lost hand bare : ℕ → ℕ} {t : Tables} (s : Sound lost hand bare t
         zombieIds = s .zombieIds;
       }
 
-  sound-roots : {hand′ : ℕ → ℕ} (l : List Address) → All (λ a. Whole (t .page) (a .0) × (a .0 + t .va ≤ 2 ^ 63)) l →
-      ((x : ℕ) → coverRoots (t .va) l x ≤ 1) →
-      ((x : ℕ) → coverRoots (t .va) l x + hand x ≡ coverRoots (t .va) (t .roots) x + hand′ x) → Sound lost hand′ bare (withRoots l t)
+  sound-roots : {hand′ : ℕ → ℕ} (l : List Address) → All (λ a. Whole (t .fields .page) (a .0) × (a .0 + t .fields .va ≤ END)) l →
+      ((x : ℕ) → coverRoots (t .fields .va) l x ≤ 1) →
+      ((x : ℕ) → coverRoots (t .fields .va) l x + hand x ≡ coverRoots (t .fields .va) (t .roots) x + hand′ x) → Sound lost hand′ bare (withRoots l t)
   sound-roots l whole once covers =
       record {
         page = s .page;
@@ -255,17 +256,17 @@ module _ {lost hand bare : ℕ → ℕ} {t : Tables} (s : Sound lost hand bare t
       }
 
   -- A root is added, and all of it comes into the hand.
-  pub sound-root : (b : ℕ) → Whole (t .page) b → b + t .va ≤ 2 ^ 63 → ((x : ℕ) → within b (t .va) x + coverRoots (t .va) (t .roots) x ≤ 1) →
-      Sound lost (λ x. within b (t .va) x + hand x) bare (withRoots (t .roots ++ address b ∷ []) t)
+  pub sound-root : (b : ℕ) → Whole (t .fields .page) b → b + t .fields .va ≤ END → ((x : ℕ) → within b (t .fields .va) x + coverRoots (t .fields .va) (t .roots) x ≤ 1) →
+      Sound lost (λ x. within b (t .fields .va) x + hand x) bare (withRoots (t .roots ++ address b ∷ []) t)
   sound-root b whole fits once =
       sound-roots (t .roots ++ address b ∷ []) (all-append _ (t .roots) (address b ∷ []) (s .roots) ((whole, fits), tt))
       (λ x. omega (arith, once x, more x)) (λ x. omega (arith, more x))
     where
-      more : (x : ℕ) → coverRoots (t .va) (t .roots ++ address b ∷ []) x ≡ coverRoots (t .va) (t .roots) x + within b (t .va) x
-      more x = omega (arith, sum-append (λ a. within (a .0) (t .va) x) (t .roots) (address b ∷ []))
+      more : (x : ℕ) → coverRoots (t .fields .va) (t .roots ++ address b ∷ []) x ≡ coverRoots (t .fields .va) (t .roots) x + within b (t .fields .va) x
+      more x = omega (arith, sum-append (λ a. within (a .0) (t .fields .va) x) (t .roots) (address b ∷ []))
 
   -- Ids below the counter stay below a greater one.
-  pub sound-counter : (n : ℕ) → t .counter ≤ n → Sound lost hand bare (withCounter n t)
+  pub sound-counter : (n : ℕ) → t .fields .counter ≤ n → Sound lost hand bare (withCounter n t)
   sound-counter n le =
       record {
         page = s .page;
@@ -286,22 +287,22 @@ module _ {lost hand bare : ℕ → ℕ} {t : Tables} (s : Sound lost hand bare t
         pagesMatch = s .pagesMatch;
         handlesOnce = s .handlesOnce;
         idsOnce = s .idsOnce;
-        freeIds = all-implies (λ r. r .id .0 < t .counter) (λ r. r .id .0 < n) (λ r h. omega arith) (t .free) (s .freeIds);
-        zombieIds = all-implies (λ z. z .id .0 < t .counter) (λ z. z .id .0 < n) (λ z h. omega arith) (t .zombies) (s .zombieIds);
+        freeIds = all-implies (λ r. r .id .0 < t .fields .counter) (λ r. r .id .0 < n) (λ r h. omega arith) (t .free) (s .freeIds);
+        zombieIds = all-implies (λ z. z .id .0 < t .fields .counter) (λ z. z .id .0 < n) (λ z h. omega arith) (t .zombies) (s .zombieIds);
       }
 
   -- A page is asked for only at page starts, so only there does it count which are bare.
-  pub sound-bare : {bare′ : ℕ → ℕ} → ((x : ℕ) → x % t .page ≡ 0 → bare x ≡ bare′ x) → Sound lost hand bare′ t
+  pub sound-bare : {bare′ : ℕ → ℕ} → ((x : ℕ) → x % t .fields .page ≡ 0 → bare x ≡ bare′ x) → Sound lost hand bare′ t
   sound-bare e = sound-pages (t .pages) (s .pages) (s .pagesRise) (λ x h. omega (arith, e x h)) (s .handlesOnce)
 
   -- What is in hand is of a root, and so below 2^63.
-  sound-below : (x : ℕ) → 0 < hand x → x < 2 ^ 63
+  sound-below : (x : ℕ) → 0 < hand x → x < END
   sound-below x h =
       ⊎-elim (λ p. p)
-      (λ p. absurd (omega (arith, s .covered x, cover-past (λ a. a .0) (λ a. t .va) (2 ^ 63) x (t .roots) (all-implies _ _ (λ a w. w .1) (t .roots) (s .roots)) p)))
-      (cases-lt x (2 ^ 63))
+      (λ p. absurd (omega (arith, s .covered x, cover-past (λ a. a .0) (λ a. t .fields .va) END x (t .roots) (all-implies _ _ (λ a w. w .1) (t .roots) (s .roots)) p)))
+      (cases-lt x END)
 
-  pub sound-range : (a n : ℕ) → 0 < n → ((x : ℕ) → within a n x ≤ hand x) → a + n ≤ 2 ^ 63
+  pub sound-range : (a n : ℕ) → 0 < n → ((x : ℕ) → within a n x ≤ hand x) → a + n ≤ END
   sound-range a n h le = omega (arith, sound-below (a + n - 1) (omega (arith, le (a + n - 1), within-in a n (a + n - 1) (omega arith) (omega arith))))
 
   -- What is in hand is in no hole.
@@ -309,7 +310,7 @@ module _ {lost hand bare : ℕ → ℕ} {t : Tables} (s : Sound lost hand bare t
   hand-once a n le x = omega (arith, le x, sound-once x)
 
   -- A range in hand becomes a hole.
-  pub sound-hole : {hand′ : ℕ → ℕ} (a n : ℕ) → ((x : ℕ) → hand x ≡ within a n x + hand′ x) → (0 < n → WholeRange (t .page) a n) →
+  pub sound-hole : {hand′ : ℕ → ℕ} (a n : ℕ) → ((x : ℕ) → hand x ≡ within a n x + hand′ x) → (0 < n → WholeRange (t .fields .page) a n) →
       Sound lost hand′ bare (withHoles (insertHole a n (t .holes)) t)
   sound-hole a n held whole =
       ⊎-elim
@@ -318,8 +319,8 @@ module _ {lost hand bare : ℕ → ℕ} {t : Tables} (s : Sound lost hand bare t
       let p : 0 < n = omega arith in
       let w = whole p in
       let le : (x : ℕ) → within a n x ≤ hand x = λ x. omega (arith, held x) in
-      sound-holes (insertHole a n (t .holes)) (all-hole (t .page) a n (t .holes) w (s .holes))
-      (apart-hole a n 0 (2 ^ 63) (t .holes) (s .holesApart) (w .start .positive) (sound-range a n p le) (hand-once a n le))
+      sound-holes (insertHole a n (t .holes)) (all-hole (t .fields .page) a n (t .holes) w (s .holes))
+      (apart-hole a n 0 END (t .holes) (s .holesApart) (w .start .positive) (sound-range a n p le) (hand-once a n le))
       (λ x. omega (arith, held x, cover-hole a n (t .holes) x)))
       (cases-eq n 0)
     where

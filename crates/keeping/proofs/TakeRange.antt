@@ -1,11 +1,11 @@
 -- Taking a range: the low part of a hole comes into the hand, or that of a new root, whose rest becomes a hole. Of a new root nothing is held by any
--- table, so its rest starts a hole of its own, which a rollback only makes larger. Assumes nothing.
+-- table, so its rest starts a hole of its own, which a rollback only makes larger.
 use mathlib.Core.Path.{_≡_, refl}
 use mathlib.Core.Logic.{_⊎_, inl, inr, ⊎-elim}
 use mathlib.Core.Bool.{true, false, not}
 use mathlib.Core.List.{List, [], _∷_, _++_}
 use mathlib.Core.Option.{Option, some, none}
-use Prim.Native.Nat.{ℕ, _+_, _-_, _≤_, _<_, _%_, _^_}
+use Prim.Native.Nat.{ℕ, _+_, _-_, _≤_, _<_, _%_}
 use native.Mathlib.Omega.{arith}
 use borrow.Author.Tests.{leb-true, eqb-true, eqb-false, not-true, not-false}
 use lib.Dec.{leb, eqb}
@@ -15,6 +15,7 @@ use Rattle.lists.proofs.Tests.{both, either, cases-lt, cases-eq}
 use Rattle.lists.proofs.Members.{member-all}
 use Rattle.words.specs.Answers.{valueOf, failed}
 use Rattle.words.specs.declared.Address.{Address}
+use Rattle.tables.specs.Bounds.{END, ROOTS, VA}
 use Rattle.tables.specs.Values.{Tables, address, withHoles, withRoots}
 use Rattle.tables.specs.InsertHole.{from, insertHole}
 use Rattle.tables.specs.TakeRange.{smallestHole, cutHole, apart, credible, reserveRoot, takeHole, takeRange}
@@ -56,53 +57,53 @@ clear-roots va b x (a ∷ l) e p q =
     out (inr h) = inr (omega (arith, leb-true (a .0 + va) b h))
 
 record Credible (b : ℕ) (t : Tables) : Type 0 where
-  start : Whole (t .page) b
-  fits : b + t .va ≤ 2 ^ 63
-  fresh : (x : ℕ) → b ≤ x → x < b + t .va → coverRoots (t .va) (t .roots) x ≡ 0
+  start : Whole (t .fields .page) b
+  fits : b + t .fields .va ≤ END
+  fresh : (x : ℕ) → b ≤ x → x < b + t .fields .va → coverRoots (t .fields .va) (t .roots) x ≡ 0
 
-is-credible : (b : ℕ) (t : Tables) → t .va ≤ 2 ^ 46 → credible b t ≡ true → Credible b t
+is-credible : (b : ℕ) (t : Tables) → t .fields .va ≤ VA → credible b t ≡ true → Credible b t
 unfolding credible
 is-credible b t small e =
     let f = both (not (eqb b 0)) _ e in
-    let g = both (eqb (b % t .page) 0) _ (f .1) in
-    let h = both (leb b (2 ^ 63 - t .va)) _ (g .1) in
+    let g = both (eqb (b % t .fields .page) 0) _ (f .1) in
+    let h = both (leb b (END - t .fields .va)) _ (g .1) in
     record {
-      start = record { positive = omega (arith, eqb-false b 0 (not-true (eqb b 0) (f .0))); aligned = eqb-true (b % t .page) 0 (g .0) };
-      fits = omega (arith, leb-true b (2 ^ 63 - t .va) (h .0));
-      fresh = λ x. clear-roots (t .va) b x (t .roots) (h .1);
+      start = record { positive = omega (arith, eqb-false b 0 (not-true (eqb b 0) (f .0))); aligned = eqb-true (b % t .fields .page) 0 (g .0) };
+      fits = omega (arith, leb-true b (END - t .fields .va) (h .0));
+      fresh = λ x. clear-roots (t .fields .va) b x (t .roots) (h .1);
     }
 
 -- a root at `b` is added to the tables `u`, its rest after `n` bytes a hole
 abbrev pub rooted : ℕ → ℕ → Tables → Tables
-rooted n b u = withHoles (insertHole (b + n) (u .va - n) (u .holes)) (withRoots (u .roots ++ address b ∷ []) u)
+rooted n b u = withHoles (insertHole (b + n) (u .fields .va - n) (u .holes)) (withRoots (u .roots ++ address b ∷ []) u)
 
 pub record Reserved (lost : ℕ → ℕ) (n : ℕ) (u : Tables) (b : ℕ) (t : Tables) : Type 0 where
   pub tables : t ≡ rooted n b u
   pub sound : Sound lost (within b n) S.none t
-  pub start : Whole (t .page) b
-  pub fresh : (x : ℕ) → b ≤ x → x < b + u .va → coverRoots (u .va) (u .roots) x ≡ 0
+  pub start : Whole (t .fields .page) b
+  pub fresh : (x : ℕ) → b ≤ x → x < b + u .fields .va → coverRoots (u .fields .va) (u .roots) x ≡ 0
 
-module _ (lost : ℕ → ℕ) (n : ℕ) (u : Tables) (kept : Kept lost u) (most : n ≤ u .va) (size : (n ≡ 0) ⊎ Whole (u .page) n) where
+module _ (lost : ℕ → ℕ) (n : ℕ) (u : Tables) (kept : Kept lost u) (most : n ≤ u .fields .va) (size : (n ≡ 0) ⊎ Whole (u .fields .page) n) where
   sound-rooted : (b : ℕ) → Credible b u → Sound lost (within b n) S.none (rooted n b u)
   sound-rooted b c =
       sound-hole (sound-root (kept .sound) b (c .start) (c .fits) once)
-      (b + n) (u .va - n) (λ x. omega (arith, within-cut b (u .va) n x most)) (rest size)
+      (b + n) (u .fields .va - n) (λ x. omega (arith, within-cut b (u .fields .va) n x most)) (rest size)
     where
-      once : (x : ℕ) → within b (u .va) x + coverRoots (u .va) (u .roots) x ≤ 1
+      once : (x : ℕ) → within b (u .fields .va) x + coverRoots (u .fields .va) (u .roots) x ≤ 1
       once x =
           ⊎-elim
-          (λ p. omega (arith, within-out b (u .va) x (inl p), kept .sound .rootsOnce x))
+          (λ p. omega (arith, within-out b (u .fields .va) x (inl p), kept .sound .rootsOnce x))
           (λ p.
           ⊎-elim
-          (λ q. omega (arith, c .fresh x p q, within-le b (u .va) x))
-          (λ q. omega (arith, within-out b (u .va) x (inr q), kept .sound .rootsOnce x))
-          (cases-lt x (b + u .va)))
+          (λ q. omega (arith, c .fresh x p q, within-le b (u .fields .va) x))
+          (λ q. omega (arith, within-out b (u .fields .va) x (inr q), kept .sound .rootsOnce x))
+          (cases-lt x (b + u .fields .va)))
           (cases-lt x b)
 
-      rest : (n ≡ 0) ⊎ Whole (u .page) n → 0 < u .va - n → WholeRange (u .page) (b + n) (u .va - n)
+      rest : (n ≡ 0) ⊎ Whole (u .fields .page) n → 0 < u .fields .va - n → WholeRange (u .fields .page) (b + n) (u .fields .va - n)
       rest (inl e) p =
           let f : b + n ≡ b = omega arith in
-          let g : u .va - n ≡ u .va = omega arith in
+          let g : u .fields .va - n ≡ u .fields .va = omega arith in
           rw (f, g) (record { start = c .start; size = kept .sound .va })
       rest (inr w) p = whole-upper n (record { start = c .start; size = kept .sound .va }) (w .aligned) (omega arith)
 
@@ -111,10 +112,10 @@ module _ (lost : ℕ → ℕ) (n : ℕ) (u : Tables) (kept : Kept lost u) (most 
   reserves-root =
       holds-looked
       (λ v e. rw e
-      (holds-then (λ _ t. t ≡ u) (holds-drive (drives-reserve (u .va)) (λ t q. tt))
+      (holds-then (λ _ t. t ≡ u) (holds-drive (drives-reserve (u .fields .va)) (λ t q. tt))
       (λ x.
       let b = valueOf x in
-      holds-then (λ _ t. t ≡ u) (holds-to (λ _ t q. q .0) (holds-endIf (failed x) (ReserveFailed (u .va) (u .page)) (λ t q _. rw q kept)))
+      holds-then (λ _ t. t ≡ u) (holds-to (λ _ t q. q .0) (holds-endIf (failed x) (ReserveFailed (u .fields .va) (u .fields .page)) (λ t q _. rw q kept)))
       (λ _. holds-then (λ _ t. (t ≡ u) × (not (credible b u) ≡ false)) (holds-endIf (not (credible b u)) Incredible (λ t q _. rw q (kept .ceilings)))
       (λ _. holds-then (λ _ t. (t ≡ withRoots (u .roots ++ address b ∷ []) u) × Credible b u)
       (holds-change _ (λ t q. (rw (q .0), is-credible b u (kept .sound .small) (not-false (credible b u) (q .1)))))
@@ -125,7 +126,7 @@ module _ (lost : ℕ → ℕ) (n : ℕ) (u : Tables) (kept : Kept lost u) (most 
 
 pub record TakenRange (lost : ℕ → ℕ) (p f k n a : ℕ) (t : Tables) : Type 0 where
   pub sound : Sound lost (within a n) S.none t
-  pub start : Whole (t .page) a
+  pub start : Whole (t .fields .page) a
   pub making : Making p f k a n t
 
 module _ (lost : ℕ → ℕ) (p f k n : ℕ) (u : Tables) (given : TakesFrom lost p f k n u) where
@@ -137,9 +138,9 @@ module _ (lost : ℕ → ℕ) (p f k n : ℕ) (u : Tables) (given : TakesFrom lo
       record {
         sound =
             sound-holes (given .sound) (cutHole n (from h) (u .holes))
-            (all-cutHole (u .page) n 0 (2 ^ 63) h (u .holes) apart (m .0) (m .1) (given .size) (given .sound .holes))
-            (apart-cutHole n 0 (2 ^ 63) h (u .holes) apart (m .0) (m .1))
-            (λ x. omega (arith, cover-cutHole n 0 (2 ^ 63) h (u .holes) x apart (m .0) (m .1)));
+            (all-cutHole (u .fields .page) n 0 END h (u .holes) apart (m .0) (m .1) (given .size) (given .sound .holes))
+            (apart-cutHole n 0 END h (u .holes) apart (m .0) (m .1))
+            (λ x. omega (arith, cover-cutHole n 0 END h (u .holes) x apart (m .0) (m .1)));
         start = member-all _ h (u .holes) (m .0) (given .sound .holes) .start;
         making =
             record {
@@ -159,28 +160,28 @@ module _ (lost : ℕ → ℕ) (p f k n : ℕ) (u : Tables) (given : TakesFrom lo
 
   -- the holes, with the rest of a root at `b`
   abbrev rest : ℕ → List Hole
-  rest b = insertHole (b + n) (u .va - n) (u .holes)
+  rest b = insertHole (b + n) (u .fields .va - n) (u .holes)
 
-  taken-root : length (u .roots) < 16 → (b : ℕ) (t : Tables) → Reserved lost n u b t → TakenRange lost p f k n b t
+  taken-root : length (u .roots) < ROOTS → (b : ℕ) (t : Tables) → Reserved lost n u b t → TakenRange lost p f k n b t
   taken-root room b t r = rw (r .tables) (taken (rw (r .tables) at (r .sound)) (rw (r .tables) at (r .start)))
     where
-      touches : 0 < u .va - n → Sound lost (within b n) S.none (rooted n b u) → length (insertHole b n (rest b)) ≤ length (rest b)
+      touches : 0 < u .fields .va - n → Sound lost (within b n) S.none (rooted n b u) → length (insertHole b n (rest b)) ≤ length (rest b)
       touches q s =
           let x = b + n - 1 in
           let y : x + 1 ≡ b + n = omega arith in
           let bare : coverHoles (u .holes) x ≡ 0 = omega (arith, given .sound .covered x, r .fresh x (omega arith) (omega arith)) in
-          length-hole-touch b n 0 (2 ^ 63) (rest b) (s .holesApart) (hand-once s b n (λ x. omega arith))
-          (starts-hole (b + n) (u .va - n) (u .holes) q (rw y at (ends-nowhere x 0 (2 ^ 63) (u .holes) (given .sound .holesApart) bare)))
+          length-hole-touch b n 0 END (rest b) (s .holesApart) (hand-once s b n (λ x. omega arith))
+          (starts-hole (b + n) (u .fields .va - n) (u .holes) q (rw y at (ends-nowhere x 0 END (u .holes) (given .sound .holesApart) bare)))
 
       -- the rest starts a hole of its own, or there is none
       back : Sound lost (within b n) S.none (rooted n b u) → length (insertHole b n (rest b)) ≤ length (u .holes) + 1
       back s =
           ⊎-elim
-          (λ e. rw (hole-none (b + n) (u .va - n) (u .holes) e) (omega (arith, length-hole b n (u .holes))))
-          (λ e. omega (arith, touches (omega arith) s, length-hole (b + n) (u .va - n) (u .holes)))
-          (cases-eq (u .va - n) 0)
+          (λ e. rw (hole-none (b + n) (u .fields .va - n) (u .holes) e) (omega (arith, length-hole b n (u .holes))))
+          (λ e. omega (arith, touches (omega arith) s, length-hole (b + n) (u .fields .va - n) (u .holes)))
+          (cases-eq (u .fields .va - n) 0)
 
-      taken : Sound lost (within b n) S.none (rooted n b u) → Whole (u .page) b → TakenRange lost p f k n b (rooted n b u)
+      taken : Sound lost (within b n) S.none (rooted n b u) → Whole (u .fields .page) b → TakenRange lost p f k n b (rooted n b u)
       taken s w =
           record {
             sound = s;
@@ -192,10 +193,10 @@ module _ (lost : ℕ → ℕ) (p f k n : ℕ) (u : Tables) (given : TakesFrom lo
                         pages = given .few .pages;
                         spans = given .few .spans;
                         zombies = given .few .zombies;
-                        holes = omega (arith, given .holes, length-hole (b + n) (u .va - n) (u .holes));
+                        holes = omega (arith, given .holes, length-hole (b + n) (u .fields .va - n) (u .holes));
                         roots = omega (arith, length-append (u .roots) (address b ∷ []));
                       };
-                  pullable = record { zombies = given .zombies; holes = omega (arith, given .holes, length-hole (b + n) (u .va - n) (u .holes)) };
+                  pullable = record { zombies = given .zombies; holes = omega (arith, given .holes, length-hole (b + n) (u .fields .va - n) (u .holes)) };
                   back = omega (arith, given .holes, back s);
                   known = record { page = given .known .page; free = given .known .free };
                 };

@@ -1,10 +1,10 @@
 -- What an entry point knows after its refusals: the tables of an open pool that is well formed, read in order, are sound. What the roots hold and no
--- table covers is lost; each range is inside the roots and no two overlap, so that what is covered is no more than the roots hold. Assumes nothing.
+-- table covers is lost; each range is inside the roots and no two overlap, so that what is covered is no more than the roots hold.
 use mathlib.Core.Path.{_≡_, refl, ap, _∙_, sym}
 use mathlib.Core.Logic.{⊎-elim}
 use mathlib.Core.Bool.{true, _&&_, _||_}
 use mathlib.Core.List.{List, [], _∷_}
-use Prim.Native.Nat.{ℕ, _+_, _-_, _%_, _≤_, _<_, _^_}
+use Prim.Native.Nat.{ℕ, _+_, _-_, _%_, _≤_, _<_}
 use native.Mathlib.Omega.{arith}
 use borrow.Author.Tests.{leb-true, ne-eqb}
 use lib.Dec.{leb, eqb}
@@ -15,6 +15,7 @@ use Rattle.lists.proofs.Tests.{both, cases-lt, cases-eq, all-implies, all-both}
 use Rattle.lists.proofs.Maps.{all-unmap, sum-map}
 use Rattle.lists.proofs.Pairs.{pairs-implies, pairs-both, pairs-all, pairs-unmap, ascends-pairs, pairs-rises}
 use Rattle.lists.proofs.Order.{length-sorted, sorted-ascends}
+use Rattle.tables.specs.Bounds.{END, HOLES, PAGES, ROOTS, SPANS, ZOMBIES}
 use Rattle.tables.specs.Values.{Tables, tablesOf, inOrder, atEntry, opened, stopped, freeOf, liveOf, holesOf, zombiesOf, pagesOf, rootsOf}
 use Rattle.tables.specs.InsertHole.{from, upto, Apart}
 use Rattle.tables.specs.WellFormed.{range, spans, ranges, ceilingsKept, sound, wellFormed}
@@ -57,14 +58,14 @@ record Ordered (t : Tables) : Type 0 where
 
 module _ (t : Tables) (c : Clauses t) (o : Ordered t) where
   roots-once : (x : ℕ) → rootsAt t x ≤ 1
-  roots-once = parted-once (λ a. a .0) (λ a. t .va) (t .roots) (c .rootsParted)
+  roots-once = parted-once (λ a. a .0) (λ a. t .fields .va) (t .roots) (c .rootsParted)
 
   tables-once : (x : ℕ) → tablesAt t x ≤ 1
   tables-once x = omega (arith, cover-ranges t x, parted-once (λ h. h .from) (λ h. h .size) (ranges t) (c .parted) x)
 
   inside : All (λ h. (x : ℕ) → within (h .from) (h .size) x ≤ rootsAt t x) (ranges t)
   inside =
-      all-implies _ _ (λ h e. inside-covered (λ a. a .0) (λ a. t .va) (t .roots) roots-once (h .from) (h .size) e) (ranges t) (c .inside)
+      all-implies _ _ (λ h e. inside-covered (λ a. a .0) (λ a. t .fields .va) (t .roots) roots-once (h .from) (h .size) e) (ranges t) (c .inside)
 
   tables-held : (x : ℕ) → tablesAt t x ≤ rootsAt t x
   tables-held x =
@@ -75,15 +76,15 @@ module _ (t : Tables) (c : Clauses t) (o : Ordered t) where
             (omega (arith, cover-ranges t x, tables-once x)),
       )
 
-  wholes : OfEach (WholeSpan (t .page)) t
-  wholes = each-of t (WholeSpan (t .page)) (c .whole)
+  wholes : OfEach (WholeSpan (t .fields .page)) t
+  wholes = each-of t (WholeSpan (t .fields .page)) (c .whole)
 
   -- a hole ends where the roots end: its last address is in one
-  ends : (h : Hole) → WholeSpan (t .page) (range (from h) (h .size)) → ((x : ℕ) → within (from h) (h .size) x ≤ rootsAt t x) →
-      upto h ≤ 2 ^ 63
-  ends h w f = ⊎-elim (λ q. absurd (past q)) (λ q. q) (cases-lt (2 ^ 63) (upto h))
+  ends : (h : Hole) → WholeSpan (t .fields .page) (range (from h) (h .size)) → ((x : ℕ) → within (from h) (h .size) x ≤ rootsAt t x) →
+      upto h ≤ END
+  ends h w f = ⊎-elim (λ q. absurd (past q)) (λ q. q) (cases-lt END (upto h))
     where
-      past : 2 ^ 63 < upto h → ⊥
+      past : END < upto h → ⊥
       past q =
           let x = upto h - 1 in
           let s : 0 < h .size = w .size .positive in
@@ -91,12 +92,12 @@ module _ (t : Tables) (c : Clauses t) (o : Ordered t) where
             arith,
             f x,
             within-in (from h) (h .size) x (omega arith) (omega arith),
-            cover-past (λ a. a .0) (λ a. t .va) (2 ^ 63) x (t .roots) (all-implies _ _ (λ a r. r .1) (t .roots) (c .roots)) (omega arith),
+            cover-past (λ a. a .0) (λ a. t .fields .va) END x (t .roots) (all-implies _ _ (λ a r. r .1) (t .roots) (c .roots)) (omega arith),
           )
 
-  holes-apart : Apart 0 (2 ^ 63) (t .holes)
+  holes-apart : Apart 0 END (t .holes)
   holes-apart =
-      pairs-apart 0 (2 ^ 63) (t .holes) (omega arith) (all-implies _ _ (λ h w. w .start .positive) (t .holes) (wholes .holes))
+      pairs-apart 0 END (t .holes) (omega arith) (all-implies _ _ (λ h w. w .start .positive) (t .holes) (wholes .holes))
       (all-implies _ _ (λ h q. (q .0 .size .positive, ends h (q .0) (q .1))) (t .holes) (all-both _ _ (t .holes) (wholes .holes) (each-of t _ inside .holes)))
       (pairs-implies _ _ (λ h k q. omega arith) (t .holes) (pairs-both _ _ (t .holes) spaced (pairs-unmap _ Loose (t .holes) (c .loose))))
     where
@@ -106,22 +107,22 @@ module _ (t : Tables) (c : Clauses t) (o : Ordered t) where
           (λ x. omega (arith, tables-once x))
 
   -- the pages: whole, one for each page of free and live, and in order
-  pages-whole : All (λ g. Whole (t .page) (g .start .0)) (t .pages)
+  pages-whole : All (λ g. Whole (t .fields .page) (g .start .0)) (t .pages)
   pages-whole =
-      all-unmap (λ g. g .start .0) (Whole (t .page)) (t .pages)
-      (rw (c .pages) (whole-pages (t .page) (c .page) (spansInOrder t) (all-inOrder t (WholeSpan (t .page)) (c .whole))))
+      all-unmap (λ g. g .start .0) (Whole (t .fields .page)) (t .pages)
+      (rw (c .pages) (whole-pages (t .fields .page) (c .page) (spansInOrder t) (all-inOrder t (WholeSpan (t .fields .page)) (c .whole))))
 
-  pages-match : (x : ℕ) → x % t .page ≡ 0 → pagesAt (t .pages) x ≡ coverFree (t .free) x + coverLive (t .live) x
+  pages-match : (x : ℕ) → x % t .fields .page ≡ 0 → pagesAt (t .pages) x ≡ coverFree (t .free) x + coverLive (t .live) x
   pages-match x e =
       sym (sum-map (λ g. g .start .0) (λ s. equal s x) (t .pages))
       ∙ ap (λ l. keysAt (λ s. s) l x) (c .pages)
-      ∙ count-pages (t .page) (c .page) (spansInOrder t) (all-inOrder t (WholeSpan (t .page)) (c .whole)) x e
+      ∙ count-pages (t .fields .page) (c .page) (spansInOrder t) (all-inOrder t (WholeSpan (t .fields .page)) (c .whole)) x e
       ∙ cover-inOrder t x
 
   pages-once : (x : ℕ) → pagesAt (t .pages) x ≤ 1
   pages-once x =
-      ⊎-elim (λ e. omega (arith, pages-match x e, tables-once x)) (λ e. omega (arith, unaligned-none (λ g. g .start .0) (t .page) x e (t .pages) pages-whole))
-      (cases-eq (x % t .page) 0)
+      ⊎-elim (λ e. omega (arith, pages-match x e, tables-once x)) (λ e. omega (arith, unaligned-none (λ g. g .start .0) (t .fields .page) x e (t .pages) pages-whole))
+      (cases-eq (x % t .fields .page) 0)
 
   pages-rise : Rises (λ g. g .start .0) 0 (t .pages)
   pages-rise =
@@ -145,8 +146,8 @@ module _ (t : Tables) (c : Clauses t) (o : Ordered t) where
         holes = wholes .holes;
         zombies = wholes .zombies;
         pages = pages-whole;
-        freeRises = rises-ranges (λ r. r .start .0) (λ r. r .size) (t .page) (t .free) (wholes .free) (o .free) (λ x. omega (arith, tables-once x));
-        liveRises = rises-ranges (λ b. b .start .0) (λ b. b .size) (t .page) (t .live) (wholes .live) (o .live) (λ x. omega (arith, tables-once x));
+        freeRises = rises-ranges (λ r. r .start .0) (λ r. r .size) (t .fields .page) (t .free) (wholes .free) (o .free) (λ x. omega (arith, tables-once x));
+        liveRises = rises-ranges (λ b. b .start .0) (λ b. b .size) (t .fields .page) (t .live) (wholes .live) (o .live) (λ x. omega (arith, tables-once x));
         holesApart = holes-apart;
         pagesRise = pages-rise;
         rootsOnce = roots-once;
@@ -173,10 +174,10 @@ length-inOrder key n l = omega (arith, length-sorted key (take n l), length-firs
 pub ceilings-read : (p : Pool) → ceilingsKept p ≡ true → Ceilings (atEntry p)
 unfolding ceilingsKept tablesOf inOrder freeOf liveOf holesOf zombiesOf pagesOf rootsOf
 ceilings-read p e =
-    let a = both (leb (p .pages .count) 256) _ e in
-    let b = both (leb (p .free .count + p .live .count) 128) _ (a .1) in
-    let c = both (leb (p .zombies .count) 128) _ (b .1) in
-    let d = both (leb (p .holes .count + p .zombies .count) 512) (leb (p .roots .count) 16) (c .1) in
+    let a = both (leb (p .pages .count) PAGES) _ e in
+    let b = both (leb (p .free .count + p .live .count) SPANS) _ (a .1) in
+    let c = both (leb (p .zombies .count) ZOMBIES) _ (b .1) in
+    let d = both (leb (p .holes .count + p .zombies .count) HOLES) (leb (p .roots .count) ROOTS) (c .1) in
     let pages = length-inOrder (λ g. g .start .0) (p .pages .count) (p .pages .cells) in
     let free = length-inOrder (λ r. r .start .0) (p .free .count) (p .free .cells) in
     let live = length-inOrder (λ b. b .start .0) (p .live .count) (p .live .cells) in
@@ -184,11 +185,11 @@ ceilings-read p e =
     let zombies = length-first (p .zombies .count) (p .zombies .cells) in
     let roots = length-first (p .roots .count) (p .roots .cells) in
     record {
-      pages = omega (arith, leb-true (p .pages .count) 256 (a .0));
-      spans = omega (arith, leb-true (p .free .count + p .live .count) 128 (b .0));
-      zombies = omega (arith, leb-true (p .zombies .count) 128 (c .0));
-      holes = omega (arith, leb-true (p .holes .count + p .zombies .count) 512 (d .0));
-      roots = omega (arith, leb-true (p .roots .count) 16 (d .1));
+      pages = omega (arith, leb-true (p .pages .count) PAGES (a .0));
+      spans = omega (arith, leb-true (p .free .count + p .live .count) SPANS (b .0));
+      zombies = omega (arith, leb-true (p .zombies .count) ZOMBIES (c .0));
+      holes = omega (arith, leb-true (p .holes .count + p .zombies .count) HOLES (d .0));
+      roots = omega (arith, leb-true (p .roots .count) ROOTS (d .1));
     }
 
 in-order : (t : Tables) → Ordered (inOrder t)
@@ -215,7 +216,7 @@ enters p s e =
     }
 
 -- of the tables at entry: the page size is the pool's, and there are no more spans than it counts
-pub entry-page : (p : Pool) → atEntry p .page ≡ p .page
+pub entry-page : (p : Pool) → atEntry p .fields .page ≡ p .page
 unfolding tablesOf inOrder
 entry-page p = refl
 

@@ -1,10 +1,10 @@
 -- What a call leaves is well formed: each clause holds of sound tables, and the pool that holds them is read back as they are. The pages stand in
--- the order of the test, since both lists rise and count the same at every address. Assumes nothing.
+-- the order of the test, since both lists rise and count the same at every address.
 use mathlib.Core.Path.{_≡_, ap, _∙_, sym}
 use mathlib.Core.Logic.{⊎-elim}
 use mathlib.Core.Bool.{true}
 use mathlib.Core.List.{List, [], _∷_, map}
-use Prim.Native.Nat.{ℕ, _+_, _%_, _≤_, _<_, _^_}
+use Prim.Native.Nat.{ℕ, _+_, _%_, _≤_, _<_}
 use native.Mathlib.Omega.{arith}
 use borrow.Author.Tests.{le-leb}
 use lib.Dec.{leb}
@@ -16,7 +16,8 @@ use Rattle.lists.proofs.Every.{and-true}
 use Rattle.lists.proofs.Pairs.{rises-above, pairs-implies, pairs-map, rises-pairs}
 use Rattle.lists.proofs.Order.{sorted-ascends, sorted-same, rises-ascends}
 use Rattle.lists.proofs.Maps.{sum-map}
-use Rattle.tables.specs.Values.{address, page, Tables, inOrder, atEntry, poolOf, opened, packFree, packLive, packHoles, packZombies, packPages, packRoots}
+use Rattle.tables.specs.Bounds.{END, HOLES, PAGES, ROOTS, SPANS, ZOMBIES}
+use Rattle.tables.specs.Values.{page, Tables, inOrder, atEntry, poolOf, opened, packFree, packLive, packHoles, packZombies, packPages, packRoots}
 use Rattle.tables.specs.InsertHole.{from, upto, Apart}
 use Rattle.tables.specs.WellFormed.{spans, ranges, holesIn, ceilingsKept, sound, wellFormed}
 use Rattle.tables.specs.declared.Hole.{Hole}
@@ -39,8 +40,8 @@ module _ (lost : ℕ → ℕ) (t : Tables) (s : Sound lost none none t) where
   tables-held : (x : ℕ) → tablesAt t x ≤ rootsAt t x
   tables-held x = omega (arith, s .covered x)
 
-  ranges-whole : All (WholeSpan (t .page)) (ranges t)
-  ranges-whole = of-each t (WholeSpan (t .page)) (record { free = s .free; live = s .live; holes = s .holes; zombies = s .zombies })
+  ranges-whole : All (WholeSpan (t .fields .page)) (ranges t)
+  ranges-whole = of-each t (WholeSpan (t .fields .page)) (record { free = s .free; live = s .live; holes = s .holes; zombies = s .zombies })
 
   ranges-inside : All (λ h. (x : ℕ) → within (h .from) (h .size) x ≤ rootsAt t x) (ranges t)
   ranges-inside = all-cover (λ h. h .from) (λ h. h .size) (rootsAt t) (ranges t) (λ x. omega (arith, cover-ranges t x, tables-held x))
@@ -49,33 +50,33 @@ module _ (lost : ℕ → ℕ) (t : Tables) (s : Sound lost none none t) where
   holes-loose =
       pairs-map ofHole Loose (t .holes)
       (pairs-implies (λ h k. upto h < from k) (λ h k. Loose (ofHole h) (ofHole k)) (λ h k p. ((λ e. omega arith), (λ e. omega arith))) (t .holes)
-      (apart-pairs 0 (2 ^ 63) (t .holes) (s .holesApart)))
+      (apart-pairs 0 END (t .holes) (s .holesApart)))
 
-  spans-whole : All (WholeSpan (t .page)) (spansInOrder t)
-  spans-whole = all-inOrder t (WholeSpan (t .page)) ranges-whole
+  spans-whole : All (WholeSpan (t .fields .page)) (spansInOrder t)
+  spans-whole = all-inOrder t (WholeSpan (t .fields .page)) ranges-whole
 
   spans-rise : Pairs (λ h k. h .from + h .size ≤ k .from) (spansInOrder t)
   spans-rise =
       ordered (λ h. h .from) (λ h. h .size) 0 (spansInOrder t) (all-implies _ _ (λ h w. w .size .positive) (spansInOrder t) spans-whole)
       (sorted-ascends (λ h. h .from) (spans t)) (λ x. omega (arith, cover-inOrder t x, tables-held x, s .rootsOnce x))
 
-  pages-count : (x : ℕ) → pagesAt (t .pages) x ≡ keysAt (λ s. s) (pageStarts (t .page) (spansInOrder t)) x
-  pages-count x = ⊎-elim aligned unaligned (cases-eq (x % t .page) 0)
+  pages-count : (x : ℕ) → pagesAt (t .pages) x ≡ keysAt (λ s. s) (pageStarts (t .fields .page) (spansInOrder t)) x
+  pages-count x = ⊎-elim aligned unaligned (cases-eq (x % t .fields .page) 0)
     where
-      aligned : x % t .page ≡ 0 → pagesAt (t .pages) x ≡ keysAt (λ s. s) (pageStarts (t .page) (spansInOrder t)) x
+      aligned : x % t .fields .page ≡ 0 → pagesAt (t .pages) x ≡ keysAt (λ s. s) (pageStarts (t .fields .page) (spansInOrder t)) x
       aligned e =
-          omega (arith, s .pagesMatch x e, count-pages (t .page) (s .page) (spansInOrder t) spans-whole x e, cover-inOrder t x)
+          omega (arith, s .pagesMatch x e, count-pages (t .fields .page) (s .page) (spansInOrder t) spans-whole x e, cover-inOrder t x)
 
-      unaligned : (x % t .page ≡ 0 → ⊥) → pagesAt (t .pages) x ≡ keysAt (λ s. s) (pageStarts (t .page) (spansInOrder t)) x
+      unaligned : (x % t .fields .page ≡ 0 → ⊥) → pagesAt (t .pages) x ≡ keysAt (λ s. s) (pageStarts (t .fields .page) (spansInOrder t)) x
       unaligned e =
-          unaligned-none (λ g. g .start .0) (t .page) x e (t .pages) (s .pages)
-          ∙ sym (unaligned-none (λ s. s) (t .page) x e (pageStarts (t .page) (spansInOrder t)) (whole-pages (t .page) (s .page) (spansInOrder t) spans-whole))
+          unaligned-none (λ g. g .start .0) (t .fields .page) x e (t .pages) (s .pages)
+          ∙ sym (unaligned-none (λ s. s) (t .fields .page) x e (pageStarts (t .fields .page) (spansInOrder t)) (whole-pages (t .fields .page) (s .page) (spansInOrder t) spans-whole))
 
-  pages-same : map (λ g. g .start .0) (t .pages) ≡ pageStarts (t .page) (spansInOrder t)
+  pages-same : map (λ g. g .start .0) (t .pages) ≡ pageStarts (t .fields .page) (spansInOrder t)
   pages-same =
-      counts-same (map (λ g. g .start .0) (t .pages)) (pageStarts (t .page) (spansInOrder t))
+      counts-same (map (λ g. g .start .0) (t .pages)) (pageStarts (t .fields .page) (spansInOrder t))
       (pairs-map (λ g. g .start .0) (λ a b. a < b) (t .pages) (rises-pairs (λ g. g .start .0) 0 (t .pages) (s .pagesRise)))
-      (rise-pages (t .page) (s .page) (spansInOrder t) spans-whole spans-rise)
+      (rise-pages (t .fields .page) (s .page) (spansInOrder t) spans-whole spans-rise)
       (λ x. sum-map (λ g. g .start .0) (λ a. equal a x) (t .pages) ∙ pages-count x)
 
   sound-clauses : Clauses t
@@ -84,11 +85,11 @@ module _ (lost : ℕ → ℕ) (t : Tables) (s : Sound lost none none t) where
         page = s .page;
         va = s .va;
         small = s .small;
-        rootsParted = once-parted (λ a. a .0) (λ a. t .va) (t .roots) (s .rootsOnce);
+        rootsParted = once-parted (λ a. a .0) (λ a. t .fields .va) (t .roots) (s .rootsOnce);
         roots = s .roots;
         whole = ranges-whole;
         parted = once-parted (λ h. h .from) (λ h. h .size) (ranges t) (λ x. omega (arith, cover-ranges t x, tables-held x, s .rootsOnce x));
-        inside = all-implies _ _ (λ h f. covered-inside (λ a. a .0) (λ a. t .va) (t .roots) (s .rootsOnce) (h .from) (h .size) f) (ranges t) ranges-inside;
+        inside = all-implies _ _ (λ h f. covered-inside (λ a. a .0) (λ a. t .fields .va) (t .roots) (s .rootsOnce) (h .from) (h .size) f) (ranges t) ranges-inside;
         loose = holes-loose;
         pages = pages-same;
         handles = pairs-map (λ g. g .handle .0) (λ a b. a ≡ b → ⊥) (t .pages) (once-differ (λ g. g .handle .0) (t .pages) (s .handlesOnce));
@@ -102,12 +103,10 @@ module _ (lost : ℕ → ℕ) (t : Tables) (s : Sound lost none none t) where
   unfolding inOrder
   inOrder-same =
       λ i. record {
-        page = t .page;
-        va = t .va;
-        counter = t .counter;
+        fields = t .fields;
         free = rises-sorted (λ r. r .start .0) (t .free) (s .freeRises) i;
         live = rises-sorted (λ b. b .start .0) (t .live) (s .liveRises) i;
-        holes = rises-sorted (λ h. h .start .0) (t .holes) (apart-rises 0 (2 ^ 63) (t .holes) (s .holesApart)) i;
+        holes = rises-sorted (λ h. h .start .0) (t .holes) (apart-rises 0 END (t .holes) (s .holesApart)) i;
         zombies = t .zombies;
         pages = rises-sorted (λ g. g .start .0) (t .pages) (s .pagesRise) i;
         roots = t .roots;
@@ -119,11 +118,11 @@ module _ (lost : ℕ → ℕ) (t : Tables) (s : Sound lost none none t) where
 pub ceilings-pass : (state : ℕ) (t : Tables) → Ceilings t → ceilingsKept (poolOf state t) ≡ true
 unfolding ceilingsKept poolOf packFree packLive packHoles packZombies packPages packRoots
 ceilings-pass state t c =
-    and-true (leb (length (t .pages)) 256) _ (le-leb (length (t .pages)) 256 (c .pages))
-    (and-true (leb (length (t .free) + length (t .live)) 128) _ (le-leb (length (t .free) + length (t .live)) 128 (c .spans))
-    (and-true (leb (length (t .zombies)) 128) _ (le-leb (length (t .zombies)) 128 (c .zombies))
-    (and-true (leb (length (t .holes) + length (t .zombies)) 512) _ (le-leb (length (t .holes) + length (t .zombies)) 512 (c .holes))
-    (le-leb (length (t .roots)) 16 (c .roots)))))
+    and-true (leb (length (t .pages)) PAGES) _ (le-leb (length (t .pages)) PAGES (c .pages))
+    (and-true (leb (length (t .free) + length (t .live)) SPANS) _ (le-leb (length (t .free) + length (t .live)) SPANS (c .spans))
+    (and-true (leb (length (t .zombies)) ZOMBIES) _ (le-leb (length (t .zombies)) ZOMBIES (c .zombies))
+    (and-true (leb (length (t .holes) + length (t .zombies)) HOLES) _ (le-leb (length (t .holes) + length (t .zombies)) HOLES (c .holes))
+    (le-leb (length (t .roots)) ROOTS (c .roots)))))
 
 -- the next call reads the tables as this one left them
 pub read-back : (lost : ℕ → ℕ) (state : ℕ) (t : Tables) → Sound lost none none t → atEntry (poolOf state t) ≡ t

@@ -1,9 +1,9 @@
--- The test of document 01's clauses passes just where they hold: each clause of `sound` as a fact, from the test and back. Assumes nothing.
+-- The tests of docs/RULES.md 5 pass just where what they test for holds: each part of `sound` as a fact, from the test and back.
 use mathlib.Core.Path.{_≡_}
 use mathlib.Core.Logic.{⊎-elim}
 use mathlib.Core.Bool.{true, _&&_, not}
 use mathlib.Core.List.{map}
-use Prim.Native.Nat.{ℕ, _+_, _-_, _%_, _≤_, _<_, _^_}
+use Prim.Native.Nat.{ℕ, _+_, _-_, _%_, _≤_, _<_}
 use native.Mathlib.Omega.{arith}
 use borrow.Author.Tests.{ltb-true, leb-true, eqb-true, eqb-false, not-true, lt-ltb, le-leb, lt-leb, eq-eqb, ne-eqb}
 use lib.Dec.{leb, eqb, ltb}
@@ -13,6 +13,7 @@ use Rattle.lists.proofs.Tests.{both, either, cases-lt}
 use Rattle.lists.proofs.Every.{and-true, every-all, all-every, pairwise-pairs, pairs-pairwise}
 use Rattle.lists.proofs.Pairs.{same-is, is-same}
 use Rattle.words.specs.declared.Address.{Address}
+use Rattle.tables.specs.Bounds.{END, VA}
 use Rattle.tables.specs.Values.{Tables}
 use Rattle.tables.specs.TakeRange.{apart}
 use Rattle.tables.specs.WellFormed.{
@@ -47,20 +48,20 @@ Loose h k = (upto h ≡ k .from → ⊥) × (upto k ≡ h .from → ⊥)
 
 -- the clauses as facts
 pub record Clauses (t : Tables) : Type 0 where
-  pub page : 0 < t .page
-  pub va : Whole (t .page) (t .va)
-  pub small : t .va ≤ 2 ^ 46
-  pub rootsParted : Pairs (Parted (λ a. a .0) (λ a. t .va)) (t .roots)
-  pub roots : All (λ a. Whole (t .page) (a .0) × (a .0 + t .va ≤ 2 ^ 63)) (t .roots)
-  pub whole : All (WholeSpan (t .page)) (ranges t)
+  pub page : 0 < t .fields .page
+  pub va : Whole (t .fields .page) (t .fields .va)
+  pub small : t .fields .va ≤ VA
+  pub rootsParted : Pairs (Parted (λ a. a .0) (λ a. t .fields .va)) (t .roots)
+  pub roots : All (λ a. Whole (t .fields .page) (a .0) × (a .0 + t .fields .va ≤ END)) (t .roots)
+  pub whole : All (WholeSpan (t .fields .page)) (ranges t)
   pub parted : Pairs (Parted (λ h. h .from) (λ h. h .size)) (ranges t)
-  pub inside : All (λ h. inCommon (λ a. a .0) (λ a. t .va) (h .from) (h .size) (t .roots) ≡ h .size) (ranges t)
+  pub inside : All (λ h. inCommon (λ a. a .0) (λ a. t .fields .va) (h .from) (h .size) (t .roots) ≡ h .size) (ranges t)
   pub loose : Pairs Loose (holesIn t)
-  pub pages : map (λ g. g .start .0) (t .pages) ≡ pageStarts (t .page) (sorted (λ h. h .from) (spans t))
+  pub pages : map (λ g. g .start .0) (t .pages) ≡ pageStarts (t .fields .page) (sorted (λ h. h .from) (spans t))
   pub handles : Pairs (λ a b. a ≡ b → ⊥) (map (λ g. g .handle .0) (t .pages))
   pub ids : Pairs (λ a b. a ≡ b → ⊥) (map (λ r. r .id .0) (t .free))
-  pub freeIds : All (λ r. r .id .0 < t .counter) (t .free)
-  pub zombieIds : All (λ z. z .id .0 < t .counter) (t .zombies)
+  pub freeIds : All (λ r. r .id .0 < t .fields .counter) (t .free)
+  pub zombieIds : All (λ z. z .id .0 < t .fields .counter) (t .zombies)
 
 -- Each test as the fact that it tests for, and back.
 positive-of : (n : ℕ) → not (eqb n 0) ≡ true → 0 < n
@@ -120,35 +121,35 @@ pub of-loose : (h k : Range) → Loose h k → (not (eqb (upto h) (k .from)) && 
 of-loose h k r =
     and-true (not (eqb (upto h) (k .from))) (not (eqb (upto k) (h .from))) (of-differ (upto h) (k .from) (r .0)) (of-differ (upto k) (h .from) (r .1))
 
-pub allowed-of : (page va : ℕ) → allowed page va ≡ true → (0 < page) × (Whole page va × (va ≤ 2 ^ 46))
+pub allowed-of : (page va : ℕ) → allowed page va ≡ true → (0 < page) × (Whole page va × (va ≤ VA))
 unfolding allowed
 allowed-of page va e =
     let a = both (not (eqb page 0)) _ e in
     let b = both (not (eqb va 0)) _ (a .1) in
-    let c = both (eqb (va % page) 0) (leb va (2 ^ 46)) (b .1) in
-    (positive-of page (a .0), (record { positive = positive-of va (b .0); aligned = eqb-true (va % page) 0 (c .0) }, leb-true va (2 ^ 46) (c .1)))
+    let c = both (eqb (va % page) 0) (leb va VA) (b .1) in
+    (positive-of page (a .0), (record { positive = positive-of va (b .0); aligned = eqb-true (va % page) 0 (c .0) }, leb-true va VA (c .1)))
 
-pub of-allowed : (page va : ℕ) → 0 < page → Whole page va → va ≤ 2 ^ 46 → allowed page va ≡ true
+pub of-allowed : (page va : ℕ) → 0 < page → Whole page va → va ≤ VA → allowed page va ≡ true
 unfolding allowed
 of-allowed page va p w s =
-    and-true _ _ (of-positive page p) (and-true _ _ (of-positive va (w .positive)) (and-true _ _ (eq-eqb (va % page) 0 (w .aligned)) (le-leb va (2 ^ 46) s)))
+    and-true _ _ (of-positive page p) (and-true _ _ (of-positive va (w .positive)) (and-true _ _ (eq-eqb (va % page) 0 (w .aligned)) (le-leb va VA s)))
 
 module _ (t : Tables) where
-  root-of : (a : Address) → (whole (t .page) (a .0) && leb (a .0) (2 ^ 63 - t .va)) ≡ true → Whole (t .page) (a .0) × (a .0 + t .va ≤ 2 ^ 63)
+  root-of : (a : Address) → (whole (t .fields .page) (a .0) && leb (a .0) (END - t .fields .va)) ≡ true → Whole (t .fields .page) (a .0) × (a .0 + t .fields .va ≤ END)
   root-of a e =
-      let q = both (whole (t .page) (a .0)) (leb (a .0) (2 ^ 63 - t .va)) e in
-      let w = whole-of (t .page) (a .0) (q .0) in
-      (w, omega (arith, leb-true (a .0) (2 ^ 63 - t .va) (q .1)))
+      let q = both (whole (t .fields .page) (a .0)) (leb (a .0) (END - t .fields .va)) e in
+      let w = whole-of (t .fields .page) (a .0) (q .0) in
+      (w, omega (arith, leb-true (a .0) (END - t .fields .va) (q .1)))
 
-  of-root : (a : Address) → Whole (t .page) (a .0) × (a .0 + t .va ≤ 2 ^ 63) → (whole (t .page) (a .0) && leb (a .0) (2 ^ 63 - t .va)) ≡ true
+  of-root : (a : Address) → Whole (t .fields .page) (a .0) × (a .0 + t .fields .va ≤ END) → (whole (t .fields .page) (a .0) && leb (a .0) (END - t .fields .va)) ≡ true
   of-root a w =
-      and-true (whole (t .page) (a .0)) (leb (a .0) (2 ^ 63 - t .va)) (of-whole (t .page) (a .0) (w .0)) (le-leb (a .0) (2 ^ 63 - t .va) (omega (arith, w .1)))
+      and-true (whole (t .fields .page) (a .0)) (leb (a .0) (END - t .fields .va)) (of-whole (t .fields .page) (a .0) (w .0)) (le-leb (a .0) (END - t .fields .va) (omega (arith, w .1)))
 
   -- from the test to the facts
   pub clauses-hold : sound t ≡ true → Clauses t
   unfolding sound
   clauses-hold e =
-      let a = both (allowed (t .page) (t .va)) _ e in
+      let a = both (allowed (t .fields .page) (t .fields .va)) _ e in
       let b = both (rootsDisjoint t) _ (a .1) in
       let c = both (rootsAligned t) _ (b .1) in
       let d = both (rangesAligned t) _ (c .1) in
@@ -158,15 +159,15 @@ module _ (t : Tables) where
       let i = both (pagesMatch t) _ (h .1) in
       let j = both (handlesDistinct t) _ (i .1) in
       let k = both (freeIdsDistinct t) (idsBelow t) (j .1) in
-      let m = both (every (λ r. ltb (r .id .0) (t .counter)) (t .free)) (every (λ z. ltb (z .id .0) (t .counter)) (t .zombies)) (k .1) in
-      let al = allowed-of (t .page) (t .va) (a .0) in
+      let m = both (every (λ r. ltb (r .id .0) (t .fields .counter)) (t .free)) (every (λ z. ltb (z .id .0) (t .fields .counter)) (t .zombies)) (k .1) in
+      let al = allowed-of (t .fields .page) (t .fields .va) (a .0) in
       record {
         page = al .0;
         va = al .1 .0;
         small = al .1 .1;
-        rootsParted = pairwise-pairs _ _ (apart-of (t .va)) (t .roots) (b .0);
+        rootsParted = pairwise-pairs _ _ (apart-of (t .fields .va)) (t .roots) (b .0);
         roots = every-all _ _ root-of (t .roots) (c .0);
-        whole = every-all _ _ (wholeSpan-of (t .page)) (ranges t) (d .0);
+        whole = every-all _ _ (wholeSpan-of (t .fields .page)) (ranges t) (d .0);
         parted = pairwise-pairs _ _ parted-of (ranges t) (f .0);
         inside = every-all _ _ (λ h e. eqb-true _ _ e) (ranges t) (g .0);
         loose = pairwise-pairs _ _ loose-of (holesIn t) (h .0);
@@ -181,10 +182,10 @@ module _ (t : Tables) where
   pub clauses-pass : Clauses t → sound t ≡ true
   unfolding sound
   clauses-pass c =
-      and-true (allowed (t .page) (t .va)) _ (of-allowed (t .page) (t .va) (c .page) (c .va) (c .small))
-      (and-true (rootsDisjoint t) _ (pairs-pairwise _ _ (of-apart (t .va)) (t .roots) (c .rootsParted))
+      and-true (allowed (t .fields .page) (t .fields .va)) _ (of-allowed (t .fields .page) (t .fields .va) (c .page) (c .va) (c .small))
+      (and-true (rootsDisjoint t) _ (pairs-pairwise _ _ (of-apart (t .fields .va)) (t .roots) (c .rootsParted))
       (and-true (rootsAligned t) _ (all-every _ _ of-root (t .roots) (c .roots))
-      (and-true (rangesAligned t) _ (all-every _ _ (of-wholeSpan (t .page)) (ranges t) (c .whole))
+      (and-true (rangesAligned t) _ (all-every _ _ (of-wholeSpan (t .fields .page)) (ranges t) (c .whole))
       (and-true (rangesDisjoint t) _ (pairs-pairwise _ _ of-parted (ranges t) (c .parted))
       (and-true (insideRoots t) _ (all-every _ _ (λ h e. eq-eqb _ _ e) (ranges t) (c .inside))
       (and-true (noHolesTouch t) _ (pairs-pairwise _ _ of-loose (holesIn t) (c .loose))

@@ -1,5 +1,5 @@
 -- Multiples of the page size: sums, differences, the smaller of two and the bytes of several regions are multiples again, and the range of a page holds
--- just one, its start. Assumes nothing.
+-- just one, its start.
 use mathlib.Core.Path.{_≡_, _∙_, sym}
 use mathlib.Core.Logic.{inl, inr, ⊎-elim}
 use mathlib.Core.List.{List, [], _∷_, foldr}

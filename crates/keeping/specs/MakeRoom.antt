@@ -5,6 +5,7 @@ use mathlib.Core.Path.{_≡_}
 use mathlib.Core.Bool.{true}
 use Prim.Native.Nat.{ℕ, _+_, _-_, _*_, _≤_, _<_, _%_}
 use lib.ListN.{length}
+use Rattle.tables.specs.Bounds.{HOLES, ROOTS, SPANS, ZOMBIES}
 use Rattle.tables.specs.Values.{Tables}
 use Rattle.tables.specs.TakeRange.{smallestHole}
 use Rattle.tables.specs.NewPages.{Room}
@@ -16,20 +17,20 @@ use Rattle.keeping.specs.Counts.{Few, Known, Making}
 -- A range of `n` bytes can be taken, from a hole or from a new root, and `k` pages made in it: nothing is in hand, and `f` bytes are free.
 pub record TakesFrom (lost : ℕ → ℕ) (p f k n : ℕ) (t : Tables) : Type 0 where
   pub sound : Sound lost none none t
-  pub size : Whole (t .page) n
-  pub most : n ≤ t .va
-  pub few : Few k 127 t
-  pub zombies : length (t .zombies) + length (t .free) ≤ 128
-  pub holes : length (t .zombies) + length (t .free) + length (t .holes) ≤ 511
-  pub root : noHole (smallestHole n (t .holes)) ≡ true → length (t .roots) < 16
+  pub size : Whole (t .fields .page) n
+  pub most : n ≤ t .fields .va
+  pub few : Few k (SPANS - 1) t
+  pub zombies : length (t .zombies) + length (t .free) ≤ ZOMBIES
+  pub holes : length (t .zombies) + length (t .free) + length (t .holes) ≤ (HOLES - 1)
+  pub root : noHole (smallestHole n (t .holes)) ≡ true → length (t .roots) < ROOTS
   pub known : Known p f t
 
 -- The range of `n` bytes from `s` is in hand, and its pages are made from `s` up to `a`; `k` more are to be made.
 pub record PagesTo (lost : ℕ → ℕ) (p f k s n a : ℕ) (t : Tables) : Type 0 where
   pub sound : Sound lost (within s n) (within s (a - s)) t
-  pub start : Whole (t .page) s
-  pub size : Whole (t .page) n
-  pub place : (s ≤ a) × ((a - s) % t .page ≡ 0)
+  pub start : Whole (t .fields .page) s
+  pub size : Whole (t .fields .page) n
+  pub place : (s ≤ a) × ((a - s) % t .fields .page ≡ 0)
   pub fits : a + k * p ≤ s + n
   pub making : Making p f k s n t
 

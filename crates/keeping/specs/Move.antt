@@ -22,7 +22,7 @@ pub record Movable (lost hand : ℕ → ℕ) (p a c : ℕ) (f : List FreeRegion)
   pub whole : Whole p a
   pub room : (x : ℕ) → a ≤ x → x < a + sum (λ z. z .size) zs → hand x ≡ 1
   pub few : Few 0 c t
-  pub page : t .page ≡ p
+  pub page : t .fields .page ≡ p
   pub free : t .free ≡ f
 
 -- While the pages at `bs` are still to be moved to `a` and on, and those before them fill the range from `base` up to `a`.
@@ -34,5 +34,5 @@ pub record Moving (lost hand : ℕ → ℕ) (p base a c : ℕ) (f : List FreeReg
   pub past : base ≤ a
   pub room : (x : ℕ) → a ≤ x → x < a + length bs * p → hand x ≡ 1
   pub few : Few 0 c t
-  pub page : t .page ≡ p
+  pub page : t .fields .page ≡ p
   pub free : t .free ≡ f

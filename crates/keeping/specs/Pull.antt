@@ -5,10 +5,11 @@
 use mathlib.Core.Path.{_≡_}
 use mathlib.Core.Logic.{_⊎_}
 use mathlib.Core.List.{List}
-use Prim.Native.Nat.{ℕ, _+_, _≤_, _<_, _%_}
+use Prim.Native.Nat.{ℕ, _+_, _-_, _≤_, _<_, _%_}
 use lib.ListN.{length}
 use Rattle.lists.specs.Tests.{All, Member}
 use Rattle.lists.specs.Walks.{sum}
+use Rattle.tables.specs.Bounds.{HOLES, SPANS, ZOMBIES}
 use Rattle.tables.specs.Values.{Tables}
 use Rattle.tables.specs.InsertFree.{bytes}
 use Rattle.tables.specs.NewPages.{Room}
@@ -25,10 +26,10 @@ pub record Pulling (lost hand bare : ℕ → ℕ) (p lacks c : ℕ) (keep l : Li
   pub members : All (λ r. Member r (t .free)) l
   pub kept : All (λ r. Member r (t .free)) keep
   pub apart : (a : ℕ) → sum (λ r. equal (r .start .0) a) l + sum (λ r. equal (r .start .0) a) keep ≤ 1
-  pub zombies : length (t .zombies) + length l ≤ 128
-  pub holes : length (t .holes) + length (t .zombies) + length l ≤ 512
+  pub zombies : length (t .zombies) + length l ≤ ZOMBIES
+  pub holes : length (t .holes) + length (t .zombies) + length l ≤ HOLES
   pub few : Few 0 c t
-  pub lacking : (lacks % p ≡ 0) × (t .page ≡ p)
+  pub lacking : (lacks % p ≡ 0) × (t .fields .page ≡ p)
   pub enough : lacks ≤ bytes l
   pub among : (x : ℕ) → bare x ≤ coverZombies (t .zombies) x
 
@@ -46,4 +47,4 @@ order others o = pullOrder (o .stream) others
 
 -- a span to spare: from the first, or since every region of the order is pulled whole
 abbrev pub Spare : ℕ → ℕ → List FreeRegion → Type 0
-Spare lacks c others = (c ≤ 127) ⊎ ((lacks ≡ bytes others) × ((0 < length others) × (c ≤ 128)))
+Spare lacks c others = (c ≤ SPANS - 1) ⊎ ((lacks ≡ bytes others) × ((0 < length others) × (c ≤ SPANS)))

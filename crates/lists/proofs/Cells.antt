@@ -1,5 +1,4 @@
 -- Laws of a table's cells: what a loop that shifts, a store and a swap leave of `packed`, and what is left of the list at each turn of a loop.
--- Assumes nothing.
 use mathlib.Core.Path.{_≡_, ap, _∙_}
 use mathlib.Core.List.{List, [], _∷_, _++_, append-assoc}
 use Prim.Native.Nat.{ℕ, suc, _+_, _-_, _≤_, _<_}

@@ -1,5 +1,5 @@
 -- A filter as the code does it: each element that passes is stored past the last one kept, into cells that begin all empty, and so the cells are at
--- every turn a packed list, which with the filter of what is left is the filter of the whole. Assumes nothing.
+-- every turn a packed list, which with the filter of what is left is the filter of the whole.
 use mathlib.Core.Path.{_≡_, refl, sym, _∙_}
 use mathlib.Core.Bool.{Bool, true, false}
 use mathlib.Core.List.{List, [], _∷_, _++_, append-assoc, append-nil}

@@ -1,4 +1,4 @@
--- Cells seen through a map: a loop that copies a list into cells, element by element, and a loop over the cells. Assumes nothing.
+-- Cells seen through a map: a loop that copies a list into cells, element by element, and a loop over the cells.
 use mathlib.Core.Path.{_≡_}
 use mathlib.Core.List.{List, [], _∷_, _++_, map, map-append, append-assoc}
 use Prim.Native.Nat.{ℕ, _+_, _≤_, _<_}

@@ -1,5 +1,4 @@
 -- Laws of `every` and `pairwise`: a test of all elements passes just where what it tests for holds of all, and so for a test of all pairs.
--- Assumes nothing.
 use mathlib.Core.Path.{_≡_, refl}
 use mathlib.Core.Bool.{Bool, true, _&&_}
 use mathlib.Core.List.{List, [], _∷_}

@@ -1,4 +1,4 @@
--- Laws of `Filled`, what a table's cells and count are below the entry points. Assumes nothing.
+-- Laws of `Filled`, what a table's cells and count are below the entry points.
 use mathlib.Core.Path.{_≡_, ap, sym, _∙_}
 use mathlib.Core.List.{List}
 use Prim.Native.Nat.{ℕ, _≤_}

@@ -1,5 +1,5 @@
 -- What a filter keeps of a list: what passed the test, the order, and with those that did not pass the length; two filters, one after the other; and
--- the filter of two lists in one. Assumes nothing.
+-- the filter of two lists in one.
 use mathlib.Core.Path.{_≡_, refl, ap}
 use mathlib.Core.Bool.{Bool, true, false, cond, not, _&&_}
 use mathlib.Core.List.{List, [], _∷_, _++_}

@@ -1,4 +1,4 @@
--- The first element that passes a test, by its place: as a loop over a table's cells finds it, and what is read or taken out there. Assumes nothing.
+-- The first element that passes a test, by its place: as a loop over a table's cells finds it, and what is read or taken out there.
 use mathlib.Core.Path.{_≡_, refl, ap}
 use mathlib.Core.Bool.{Bool, true, false, cond}
 use mathlib.Core.List.{List, [], _∷_}

@@ -1,4 +1,4 @@
--- The first of a sorted list is its least, and without it the rest stays sorted. Assumes nothing.
+-- The first of a sorted list is its least, and without it the rest stays sorted.
 use mathlib.Core.Path.{_≡_, refl, ap, _∙_}
 use mathlib.Core.Bool.{Bool, true, false, cond}
 use mathlib.Core.List.{List, [], _∷_, _++_}

@@ -1,5 +1,5 @@
 -- Laws of lists whose keys rise, in the code's terms: the element of a key stands at the first place whose key is not below it, and what is done to that
--- element alone is done at its place. Assumes nothing.
+-- element alone is done at its place.
 use mathlib.Core.Path.{_≡_, refl, ap, _∙_}
 use mathlib.Core.Logic.{inl, inr}
 use mathlib.Core.Bool.{Bool, true, false, cond}

@@ -1,5 +1,5 @@
 -- The least element of those that pass a test is what a scan from the front finds. `lesser` is associative, so the least of all is the lesser of the
--- best so far and the least of what is left; that stays the same at each element. Assumes nothing.
+-- best so far and the least of what is left; that stays the same at each element.
 use mathlib.Core.Path.{_≡_, refl, ap, _∙_, sym}
 use mathlib.Core.Logic.{⊎-elim}
 use mathlib.Core.Bool.{Bool, true, false, cond, not, _||_, false≢true}
@@ -9,13 +9,14 @@ use Prim.Native.Nat.{ℕ, _+_, _≤_, _<_}
 use native.Mathlib.Omega.{arith}
 use borrow.Author.Tests.{le-leb, lt-leb, lt-ltb, le-ltb}
 use lib.Dec.{ltb}
-use lib.ListN.{length, getD, drop, length-drop}
+use lib.ListN.{length, getD, take, drop, length-drop}
 use lib.Seq.{getD-drop, drop-drop}
 use Rattle.lists.specs.Tests.{filter}
 use Rattle.lists.specs.Order.{smaller, least}
 use Rattle.lists.specs.Scan.{nothing, better, scan, found}
 use Rattle.lists.specs.declared.Best.{Best}
 use Rattle.lists.proofs.Tests.{cases-lt}
+use Rattle.lists.proofs.Cells.{turn, ends}
 
 module _ {A : Type 0} (key : A → ℕ) where
   -- the one of the smaller key, the first on ties
@@ -131,3 +132,15 @@ module _ {A : Type 0} (key : A → ℕ) where
   pub scan-placed : (p : A → Bool) (l : List A) → scan key p 0 nothing l .found ≡ true → scan key p 0 nothing l .at < length l
   scan-placed p [] e = absurd (false≢true e)
   scan-placed p (x ∷ l) e = scanned x (x ∷ l) p 0 nothing (x ∷ l) refl (omega arith) (marks-nothing x (x ∷ l)) .1 .below e
+
+  -- A scan of the first `n` cells as a loop: where it stands before place `i`, at a turn, and at the end.
+  module _ (p : A → Bool) (n : ℕ) (cells : List A) where
+    abbrev pub Scanned : ℕ → Best → Type 0
+    Scanned i b = scan key p 0 nothing (take n cells) ≡ scan key p i b (drop i (take n cells))
+
+    pub scan-turn : (i : ℕ) (b : Best) (z : A) → i < n → n ≤ length cells → Scanned i b →
+        Scanned (i + 1) (cond (p (getD cells i z)) (better i (key (getD cells i z)) b) b)
+    scan-turn i b z h k s = s ∙ rw (turn n cells i z h k)
+
+    pub scan-whole : (i : ℕ) (b : Best) → n ≤ i → Scanned i b → b ≡ scan key p 0 nothing (take n cells)
+    scan-whole i b h s = sym (s ∙ rw (ends n cells i h))

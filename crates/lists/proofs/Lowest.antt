@@ -1,4 +1,4 @@
--- The lowest key of a list, found from its front: what is left goes on from the lower one. Assumes nothing.
+-- The lowest key of a list, found from its front: what is left goes on from the lower one.
 use mathlib.Core.Path.{_≡_, refl}
 use mathlib.Core.List.{List, [], _∷_, foldr}
 use Prim.Native.Nat.{ℕ, min}

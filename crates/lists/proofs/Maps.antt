@@ -1,4 +1,4 @@
--- What holds of every element of a list, its members, its sums and its order, seen through a map. Assumes nothing.
+-- What holds of every element of a list, its members, its sums and its order, seen through a map.
 use mathlib.Core.Path.{_≡_, refl, ap}
 use mathlib.Core.Logic.{inl, inr}
 use mathlib.Core.List.{List, [], _∷_, map}

@@ -1,4 +1,4 @@
--- Laws of `Member`: where an element of a list comes from, what it counts towards a sum, and what taking one out by its key leaves. Assumes nothing.
+-- Laws of `Member`: where an element of a list comes from, what it counts towards a sum, and what taking one out by its key leaves.
 use mathlib.Core.Path.{_≡_, refl, ap, sym, subst}
 use mathlib.Core.Logic.{_⊎_, inl, inr, ⊎-elim}
 use mathlib.Core.Bool.{Bool, true, false, cond, not}

@@ -1,5 +1,4 @@
 -- Laws of `Pairs`. What is in order is in order pair by pair, and back; a joined list is, where each part is and each pair of parts is.
--- Assumes nothing.
 use mathlib.Core.Path.{_≡_, refl}
 use mathlib.Core.Bool.{true, false≢true}
 use mathlib.Core.List.{List, [], _∷_, _++_, map}

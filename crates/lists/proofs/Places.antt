@@ -1,5 +1,5 @@
 -- Laws of `insertAt`, `removeAt` and `place`: what they do to lengths, to the elements before and after the place, and in the code's terms, a turn of
--- a loop that shifts cells. Assumes nothing.
+-- a loop that shifts cells.
 use mathlib.Core.Path.{_≡_, refl, ap}
 use mathlib.Core.Bool.{Bool, true, false, cond}
 use mathlib.Core.List.{List, [], _∷_, _++_}

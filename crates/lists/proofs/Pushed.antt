@@ -1,4 +1,4 @@
--- A table's cells past its count: what a store into the first of them leaves, and what a loop that clears them leaves. Assumes nothing.
+-- A table's cells past its count: what a store into the first of them leaves, and what a loop that clears them leaves.
 use mathlib.Core.Path.{_≡_, refl, ap, sym, _∙_}
 use mathlib.Core.List.{List, [], _∷_, _++_, append-nil, append-assoc}
 use Prim.Native.Nat.{ℕ, _+_, _-_, _≤_, _<_}

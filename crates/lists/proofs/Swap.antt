@@ -1,4 +1,4 @@
--- Laws of `swapOut`. Assumes nothing.
+-- Laws of `swapOut`.
 use mathlib.Core.Path.{_≡_, refl, _∙_}
 use mathlib.Core.List.{List, [], _∷_}
 use Prim.Native.Nat.{ℕ, zero, suc, _+_, _-_, _<_}

@@ -1,4 +1,4 @@
--- Laws of the tests of a list, and of what holds of every element. Assumes nothing.
+-- Laws of the tests of a list, and of what holds of every element.
 use mathlib.Core.Path.{_≡_, refl, _∙_, sym}
 use mathlib.Core.Logic.{_⊎_, inl, inr}
 use mathlib.Core.Bool.{Bool, true, false, cond, _&&_, _||_, false≢true}
@@ -8,9 +8,9 @@ use native.Mathlib.Omega.{arith}
 use native.Mathlib.Nat.{le-of-suc-le-suc}
 use native.Mathlib.Decide.{decLt, ℕ-discrete}
 use borrow.Author.Tests.{le-leb, lt-leb, lt-ltb, le-ltb, eq-eqb, ne-eqb}
-use lib.ListN.{length, getD, set, take, replicate, length-map, length-take}
+use lib.ListN.{length, getD, set, take, length-map, length-take}
 use lib.Seq.{getD-take}
-use Rattle.lists.specs.Tests.{All, every, any, filter}
+use Rattle.lists.specs.Tests.{All, any, filter}
 use Rattle.lists.specs.Places.{insertAt}
 
 -- the length of an array of structs, which is known of the list that its elements are mapped to
@@ -117,10 +117,3 @@ module _ {ℓ} {A : Type ℓ} where
   any-none p (x ∷ l) e =
       let q = neither (p x) (any p l) e in
       (q .0, any-none p l (q .1))
-
-  -- what passes a test that knows only `z` is `z`, as often as the list is long
-  pub every-same : (p : A → Bool) (z : A) → ((x : A) → p x ≡ true → x ≡ z) → (l : List A) → every p l ≡ true → l ≡ replicate (length l) z
-  every-same p z f [] e = refl
-  every-same p z f (x ∷ l) e =
-      let q = both (p x) (every p l) e in
-      λ i. f x (q .0) i ∷ every-same p z f l (q .1) i

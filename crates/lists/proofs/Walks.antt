@@ -1,5 +1,4 @@
 -- Laws of sums over a list: over two lists in one, over those that pass a test, over what is joined, and term by term; and of what is joined from two lists.
--- Assumes nothing.
 use mathlib.Core.Path.{_≡_, refl, sym, ap, _∙_}
 use mathlib.Core.Bool.{Bool, true, false, cond, not}
 use mathlib.Core.List.{List, [], _∷_, _++_, append-assoc}

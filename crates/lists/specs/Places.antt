@@ -1,4 +1,4 @@
--- An element's place in a list: put in at a place, taken out at a place, found, taken out with the last one moved into its place.
+-- An element's place in a list: put in at a place, taken out at a place, found, taken out in exchange for the last one.
 use mathlib.Core.Bool.{Bool, cond}
 use mathlib.Core.List.{List, [], _∷_}
 use Prim.Native.Nat.{ℕ, zero, suc, _-_}
@@ -31,7 +31,7 @@ module _ {ℓ} {A : Type ℓ} where
   abbrev pub unlast : List A → List A
   unlast l = take (length l - 1) l
 
-  -- the element at place `i` taken out, and the last one moved into its place
+  -- the element at place `i` taken out, where the last one then stands
   abbrev pub swapOut : ℕ → List A → List A
   swapOut i [] = []
   swapOut i (x ∷ l) = unlast (set (x ∷ l) i (last x l))

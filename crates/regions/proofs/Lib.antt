@@ -1,5 +1,4 @@
 pub mod Choosing
 pub mod Pulling
 pub mod Splitting
-pub mod Ordering
-pub mod Rests
+pub mod CutRegion

@@ -1,4 +1,4 @@
--- The next to pull is the oldest of this stream, else of the others; and to pull by repeated choice is to pull by the order. Assumes nothing.
+-- The next to pull is the oldest of this stream, else of the others; and to pull by repeated choice is to pull by the order.
 use mathlib.Core.Path.{_≡_, refl, ap, sym, _∙_}
 use mathlib.Core.Bool.{Bool, true, false, cond, not, _&&_, true≢false}
 use mathlib.Core.List.{List, [], _∷_}

@@ -1,5 +1,5 @@
 -- A walk over the free regions that leaves out those that merge with a range: the regions kept, the lowest start and the bytes so far, with what is left,
--- make up the whole at each turn. With the counter as id, what it has at the end is the merged region of the rule. Assumes nothing.
+-- make up the whole at each turn. With the counter as id, what it has at the end is the merged region of the rule.
 use mathlib.Core.Path.{_≡_, refl, ap, sym, _∙_}
 use mathlib.Core.Bool.{Bool, true, false, not}
 use mathlib.Core.List.{List, [], _∷_, foldr}
@@ -11,7 +11,8 @@ use Rattle.lists.proofs.Cells.{turn, ends}
 use Rattle.lists.proofs.Walks.{sum-filter}
 use Rattle.lists.proofs.Lowest.{foldr-min}
 use Rattle.lists.proofs.Compact.{Compact, compact-starts, compact-passes, compact-skips, compact-ends}
-use Rattle.tables.specs.Values.{region, freeOf, packFree}
+use Rattle.tables.specs.Bounds.{SPANS}
+use Rattle.tables.specs.Values.{region, freeOf, packFree, emptyRegion}
 use Rattle.tables.specs.InsertFree.{from, bytes, merges, merged}
 use Rattle.tables.specs.declared.FreeRegion.{FreeRegion}
 use Rattle.tables.specs.declared.FreeRegions.{FreeRegions}
@@ -31,7 +32,7 @@ module _ (a n s : ℕ) (t : FreeRegions) where
 
   -- where the walk stands before place `i`
   pub record Split (others : FreeRegions) (start size i : ℕ) : Type 0 where
-    pub kept : Compact 128 (region 0 0 0 0) far (freeOf t) (others .cells) (others .count) i
+    pub kept : Compact SPANS emptyRegion far (freeOf t) (others .cells) (others .count) i
     pub least : lowest a (filter near (freeOf t)) ≡ lowest start (filter near (drop i (freeOf t)))
     pub all : n + bytes (filter near (freeOf t)) ≡ size + bytes (filter near (drop i (freeOf t)))
 
@@ -42,11 +43,11 @@ module _ (a n s : ℕ) (t : FreeRegions) where
 -- A turn, at the region `x`.
 module _ {a n s : ℕ} {t others : FreeRegions} {start size i : ℕ} (h : i < t .count) (k : t .count ≤ length (t .cells)) (sp : Split a n s t others start size i) where
   abbrev x : FreeRegion
-  x = getD (t .cells) i (region 0 0 0 0)
+  x = getD (t .cells) i emptyRegion
 
   left : drop i (freeOf t) ≡ x ∷ drop (i + 1) (freeOf t)
   unfolding freeOf
-  left = turn (t .count) (t .cells) i (region 0 0 0 0) h k
+  left = turn (t .count) (t .cells) i emptyRegion h k
 
   module _ (e : merges a n s x ≡ true) where
     near-here : filter (merges a n s) (drop i (freeOf t)) ≡ x ∷ filter (merges a n s) (drop (i + 1) (freeOf t))
@@ -63,7 +64,7 @@ module _ {a n s : ℕ} {t others : FreeRegions} {start size i : ℕ} (h : i < t 
           all = omega (arith, sp .all, ap bytes near-here);
         }
 
-  pub split-keeps : merges a n s x ≡ false → t .count ≤ 128 → Split a n s t (record { cells = set (others .cells) (others .count) x; count = others .count + 1 }) start size (i + 1)
+  pub split-keeps : merges a n s x ≡ false → t .count ≤ SPANS → Split a n s t (record { cells = set (others .cells) (others .count) x; count = others .count + 1 }) start size (i + 1)
   split-keeps e room =
       let near-none : filter (merges a n s) (drop i (freeOf t)) ≡ filter (merges a n s) (drop (i + 1) (freeOf t)) = rw (left, e) in
       record {

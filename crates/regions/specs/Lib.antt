@@ -1,5 +1,4 @@
 pub mod Merging
 pub mod Choosing
 pub mod Pulling
-pub mod Ordering
 pub mod Cutting

@@ -3,12 +3,12 @@ use tables::FreeRegion;
 use tables::FreeRegions;
 use tables::Pool;
 use words::Address;
-use words::EventId;
 ghost use mathlib.Core.Path.{_≡_};
 ghost use mathlib.Core.List.{[]};
 ghost use Prim.Native.Nat.{_≤_, _<_};
 ghost use lib.Dec.{leb};
 ghost use Rattle.lists.specs.Places.{insertAt, removeAt, place};
+ghost use Rattle.tables.specs.Bounds.{SPANS};
 ghost use Rattle.tables.specs.Values.{freeOf, packFree};
 ghost use Rattle.tables.specs.Kept.{KeptFree};
 ghost use Rattle.tables.specs.InsertFree.{from};
@@ -17,18 +17,13 @@ ghost use Rattle.tables.specs.InsertFree.{from};
 pub fn no_regions() -> FreeRegions
     ensures { λ r. ⌜ r ≡ packFree [] ⌝ }
 {
-    let none = FreeRegion {
-        start: Address(0),
-        size: 0,
-        stream: 0,
-        id: EventId(0),
-    };
+    let none = FreeRegion::EMPTY;
     let cells = [none; Pool::SPANS];
     FreeRegions { cells, count: 0 }
 }
 
 pub fn insert_at(t: FreeRegions, at: usize, r: FreeRegion) -> FreeRegions
-    requires { ⌜ (KeptFree t × (t .count < 128)) × (at ≤ t .count) ⌝ }
+    requires { ⌜ (KeptFree t × (t .count < SPANS)) × (at ≤ t .count) ⌝ }
     ensures { λ u. ⌜ u ≡ packFree (insertAt at r (freeOf t)) ⌝ }
 {
     let mut out = t;
@@ -57,19 +52,14 @@ pub fn remove_at(t: FreeRegions, at: usize) -> FreeRegions
         out.cells[i] = moved;
         i = j;
     }
-    out.cells[last] = FreeRegion {
-        start: Address(0),
-        size: 0,
-        stream: 0,
-        id: EventId(0),
-    };
+    out.cells[last] = FreeRegion::EMPTY;
     out.count = last;
     out
 }
 
 // The place of the first region that starts at an address or above it.
 pub fn find(t: FreeRegions, start: Address) -> usize
-    requires { ⌜ t .count ≤ 128 ⌝ }
+    requires { ⌜ t .count ≤ SPANS ⌝ }
     ensures { λ p. ⌜ p ≡ place (λ q. leb (start .0) (from q)) (freeOf t) ⌝ }
 {
     let count = t.count;

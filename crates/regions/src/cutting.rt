@@ -2,16 +2,14 @@
 use tables::FreeRegion;
 use tables::FreeRegions;
 use words::Address;
-use words::EventId;
 ghost use mathlib.Core.Path.{_≡_};
 ghost use Rattle.tables.specs.Values.{freeOf, packFree};
-ghost use Rattle.tables.specs.InsertFree.{from, withoutFree, putRest};
-ghost use Rattle.regions.specs.Cutting.{regionAt, Cuttable};
+ghost use Rattle.regions.specs.Cutting.{regionAt, cutFree, Cuttable};
 
 // The first `taken` bytes of the region at a place are taken; what they leave stays free. No region starts within another: the rest's place is the region's.
 pub fn cut_region(t: FreeRegions, at: usize, taken: u64) -> FreeRegions
     requires { ⌜ Cuttable t at taken ⌝ }
-    ensures { λ u. ⌜ u ≡ packFree (putRest taken (regionAt t at) (withoutFree (from (regionAt t at)) (freeOf t))) ⌝ }
+    ensures { λ u. ⌜ u ≡ packFree (cutFree taken (regionAt t at) (freeOf t)) ⌝ }
 {
     let mut out = t;
     let r = out.cells[at];
@@ -34,12 +32,7 @@ pub fn cut_region(t: FreeRegions, at: usize, taken: u64) -> FreeRegions
         out.cells[i] = moved;
         i = j;
     }
-    out.cells[last] = FreeRegion {
-        start: Address(0),
-        size: 0,
-        stream: 0,
-        id: EventId(0),
-    };
+    out.cells[last] = FreeRegion::EMPTY;
     out.count = last;
     out
 }

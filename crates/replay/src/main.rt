@@ -2,5 +2,5 @@
 use libc::STDIN_FILENO;
 
 fn main() {
-    pump::pump(STDIN_FILENO, false);
+    replay_stream::pump(STDIN_FILENO, false);
 }

@@ -1,6 +1,6 @@
-// As replay, and after each result line the pool's tables, in the form of compare/README.md.
+// As replay, and after each result line the pool's tables (docs/RULES.md 7.6).
 use libc::STDIN_FILENO;
 
 fn main() {
-    pump::pump(STDIN_FILENO, true);
+    replay_stream::pump(STDIN_FILENO, true);
 }

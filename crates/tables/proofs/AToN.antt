@@ -1,16 +1,17 @@
--- The session to follow, A to N: one table, with one proof by computation. Each row has the call, the records that it leaves (their answers are what
--- it was lent), what it answers, and every table and the counter after it.
+-- docs/RULES.md 9, A to N: one table, with one proof by computation. Each row has the call, the records that it leaves (their answers are what it was
+-- lent), what it answers, and every table and the counter after it.
 use mathlib.Core.Path.{_≡_, refl}
 use mathlib.Core.List.{List, [], _∷_}
 use Rattle.tables.specs.Values.{address, opened, closedPool, region, buffer, hole, zombie, page}
 use Rattle.tables.specs.Outcomes.{answers}
 use Rattle.words.specs.Words.{reserve, create, map, access, unmap, release, recorded, asked}
-use Rattle.tables.specs.Session.{Row, opens, mallocs, frees, row, answerBy, played, holding}
+use Rattle.tables.specs.Calls.{mallocs, frees}
+use Rattle.tables.specs.Session.{Row, openRow, row, played, holding, repliedBy}
 
 abbrev aToN : List Row
 aToN =
     -- open
-    row (opens 4 40 0)
+    openRow 4 40 0
     (reserve 1000 40 0 ∷ [])
     (answers 0 1000 4) opened
     (holding 4 40 0 [] [] (hole 1000 40 ∷ []) []
@@ -103,5 +104,5 @@ aToN =
     []
 
 pub follows : played closedPool aToN ≡ aToN
-unfolding answerBy
+unfolding repliedBy
 follows = refl

@@ -1,4 +1,4 @@
--- Laws of `Apart`: what it says of each hole of a list, and that the lower bound may be lower. Assumes nothing.
+-- Laws of `Apart`: what it says of each hole of a list, and that the lower bound may be lower.
 use mathlib.Core.List.{List, [], _∷_}
 use Prim.Native.Nat.{ℕ, zero, suc, _≤_, _<_}
 use native.Mathlib.Omega.{arith}

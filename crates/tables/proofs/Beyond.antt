@@ -5,12 +5,13 @@ use mathlib.Core.List.{List, [], _∷_}
 use Rattle.words.specs.Words.{reserve, create, map, access, unmap, release, recorded, asked, sync, giveback}
 use Rattle.tables.specs.Values.{address, closed, opened, closedPool, noTables, region, buffer, hole, page}
 use Rattle.tables.specs.Outcomes.{answers}
-use Rattle.tables.specs.Session.{Row, opens, mallocs, frees, closes, row, answerBy, played, holding}
+use Rattle.tables.specs.Calls.{mallocs, frees, closes}
+use Rattle.tables.specs.Session.{Row, openRow, row, played, holding, repliedBy}
 
 abbrev beyond : List Row
 beyond =
     -- A
-    row (opens 4 8 2)
+    openRow 4 8 2
     (reserve 1000 8 0 ∷ create 71 4 0 ∷ map 1000 71 0 ∷ create 72 4 0 ∷ map 1004 72 0 ∷ access 1000 8 0 ∷ recorded 0 0 0 ∷ sync 0 0 0 ∷ [])
     (answers 0 1000 4) opened
     (holding 4 8 1 (region 1000 8 0 0 ∷ []) [] [] []
@@ -59,5 +60,5 @@ beyond =
     []
 
 pub follows : played closedPool beyond ≡ beyond
-unfolding answerBy
+unfolding repliedBy
 follows = refl

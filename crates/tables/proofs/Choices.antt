@@ -1,4 +1,4 @@
--- What a choice by place chose, by how it came out. Assumes nothing.
+-- What a choice by place chose, by how it came out.
 use mathlib.Core.Path.{_≡_, sym}
 use mathlib.Core.List.{List}
 use mathlib.Core.Option.{Option, some, none}

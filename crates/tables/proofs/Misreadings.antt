@@ -1,4 +1,4 @@
--- The three misreadings that document 01 names. For each: the rule's steps misread, a session, and its last call by the rule and by the misreading. All
+-- The three misreadings of docs/RULES.md 9.3. For each: the rule's steps misread, a session, and its last call by the rule and by the misreading. All
 -- by computation.
 use mathlib.Core.Path.{_≡_, refl}
 use mathlib.Core.Bool.{cond}
@@ -8,7 +8,7 @@ use lib.Dec.{ltb, eqb}
 use lib.ListN.{length, getD}
 use Rattle.lists.specs.Order.{put}
 use Rattle.words.specs.Words.{reserve, create, map, access, unmap, recorded, asked, wait, sync}
-use Rattle.tables.specs.Values.{address, opened, closedPool, region, buffer, hole, zombie, page}
+use Rattle.tables.specs.Values.{address, opened, closedPool, region, buffer, hole, zombie, page, emptyZombie}
 use Rattle.tables.specs.Outcomes.{answers}
 use Rattle.tables.specs.Steps.{Step, Act, _>>=_, _>>_, give, endIf, nothing, tables, changeFree, changeLive, countOn}
 use Rattle.tables.specs.Driver.{isComplete}
@@ -16,7 +16,8 @@ use Rattle.tables.specs.InsertFree.{from, putFree, withoutFree}
 use Rattle.tables.specs.Cleanup.{clean, cleanup}
 use Rattle.tables.specs.Fit.{fit}
 use Rattle.tables.specs.Malloc.{orRoom, handOver}
-use Rattle.tables.specs.Session.{Row, opens, mallocs, frees, row, answerBy, played, playedBy, holding}
+use Rattle.tables.specs.Calls.{mallocs, frees}
+use Rattle.tables.specs.Session.{Row, openRow, row, played, playedBy, holding, repliedBy, calls}
 use Rattle.tables.specs.declared.FreeRegion.{FreeRegion}
 use Rattle.tables.specs.declared.Outcome.{Outcome}
 use Rattle.tables.specs.declared.Outcome.the-variants.{Allocated, RequestedExceedsVa}
@@ -26,12 +27,12 @@ abbrev Apart : (ℕ → ℕ → Step Outcome) → List Row → Row → Row → T
 Apart misread l right wrong =
     (played closedPool (l ++ right ∷ []) ≡ l ++ right ∷ []) × (playedBy misread closedPool (l ++ right ∷ []) ≡ l ++ wrong ∷ [])
 
--- 1. Refusing 8 before the fit, though a free region merged over two roots may exceed va_size.
+-- 1. 8 before the fit.
 abbrev pub refusesFirst : ℕ → ℕ → Step Outcome
 refusesFirst n s = do
   cleanup
   t ← tables
-  endIf (ltb (t .va) n) (RequestedExceedsVa n (t .va))
+  endIf (ltb (t .fields .va) n) (RequestedExceedsVa n (t .fields .va))
   o ← fit n s
   r ← orRoom n s o
   handOver n s r
@@ -39,7 +40,7 @@ refusesFirst n s = do
 -- page size 4, va_size 4
 abbrev twoRoots : List Row
 twoRoots =
-    row (opens 4 4 0)
+    openRow 4 4 0
     (reserve 1000 4 0 ∷ [])
     (answers 0 1000 4) opened
     (holding 4 4 0 [] [] (hole 1000 4 ∷ []) [] [] (address 1000 ∷ [])) ∷
@@ -67,24 +68,24 @@ pub refuses-first :
     (holding 4 4 4 [] (buffer 1000 8 1 ∷ []) [] [] (page 1000 71 ∷ page 1004 72 ∷ []) (address 1000 ∷ address 1004 ∷ [])))
     (row (mallocs 8 1) [] (answers 8 8 4) opened
     (holding 4 4 4 (region 1000 8 1 3 ∷ []) [] [] [] (page 1000 71 ∷ page 1004 72 ∷ []) (address 1000 ∷ address 1004 ∷ [])))
-unfolding answerBy
+unfolding repliedBy
 refuses-first = (refl, refl)
 
 -- page size 4, va_size 16, two initial pages
 abbrev initial : List Row
 initial =
-    row (opens 4 16 2)
+    openRow 4 16 2
     (reserve 1000 16 0 ∷ create 71 4 0 ∷ map 1000 71 0 ∷ create 72 4 0 ∷ map 1004 72 0 ∷ access 1000 8 0 ∷ recorded 0 0 0 ∷ sync 0 0 0 ∷ [])
     (answers 0 1000 4) opened
     (holding 4 16 1 (region 1000 8 0 0 ∷ []) [] (hole 1008 8 ∷ []) [] (page 1000 71 ∷ page 1004 72 ∷ []) (address 1000 ∷ [])) ∷
     []
 
--- 2. A fresh id on a split tail.
+-- 2. A new id for what hand over leaves.
 abbrev freshTail : ℕ → FreeRegion → Act
 freshTail n r =
     cond (eqb (r .size) n) nothing (do
       t ← tables
-      changeFree (putFree (region (from r + n) (r .size - n) (r .stream) (t .counter)))
+      changeFree (putFree (region (from r + n) (r .size - n) (r .stream) (t .fields .counter)))
       countOn)
 
 abbrev pub renumbersTail : ℕ → ℕ → Step Outcome
@@ -103,16 +104,16 @@ pub renumbers-tail :
     (holding 4 16 1 (region 1004 4 1 0 ∷ []) (buffer 1000 4 1 ∷ []) (hole 1008 8 ∷ []) [] (page 1000 71 ∷ page 1004 72 ∷ []) (address 1000 ∷ [])))
     (row (mallocs 4 1) (asked 0 1 0 ∷ []) (answers 0 1000 4) opened
     (holding 4 16 2 (region 1004 4 1 1 ∷ []) (buffer 1000 4 1 ∷ []) (hole 1008 8 ∷ []) [] (page 1000 71 ∷ page 1004 72 ∷ []) (address 1000 ∷ [])))
-unfolding answerBy
+unfolding repliedBy
 renumbers-tail = (refl, refl)
 
--- 3. Walking zombies without staying at the refilled place: at most `n` turns, from place `i` on.
+-- 3. The walk goes on from a place that was just filled: at most `n` turns, from place `i` on.
 abbrev walkOn : ℕ → ℕ → Act
 walkOn zero i = nothing
 walkOn (suc n) i = do
   t ← tables
   cond (ltb i (length (t .zombies))) (do
-    let z = getD (t .zombies) i (zombie 0 0 0)
+    let z = getD (t .zombies) i emptyZombie
     c ← isComplete (z .id .0)
     cond c (clean i z) nothing
     walkOn n (i + 1)) nothing
@@ -143,12 +144,12 @@ pub walks-on :
     (row (mallocs 20 1) (asked 0 1 0 ∷ unmap 1000 4 0 ∷ asked 0 1 0 ∷ unmap 1004 4 0 ∷ []) (answers 8 20 16) opened
     (holding 4 16 3 [] (buffer 1008 4 1 ∷ buffer 1012 4 1 ∷ []) (hole 1000 8 ∷ []) [] (page 1008 71 ∷ page 1012 72 ∷ []) (address 1000 ∷ [])))
     (record {
-      request = mallocs 20 1;
+      request = calls (mallocs 20 1);
       answers = 0 ∷ 1 ∷ 0 ∷ 0 ∷ 0 ∷ 1 ∷ 0 ∷ 0 ∷ [];
       records = asked 0 1 0 ∷ unmap 1000 4 0 ∷ [];
       result = answers 8 20 16;
       state = opened;
       tables = holding 4 16 3 [] (buffer 1008 4 1 ∷ buffer 1012 4 1 ∷ []) (hole 1000 4 ∷ []) (zombie 1004 4 0 ∷ []) (page 1008 71 ∷ page 1012 72 ∷ []) (address 1000 ∷ []);
     })
-unfolding answerBy
+unfolding repliedBy
 walks-on = (refl, refl)

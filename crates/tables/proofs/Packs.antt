@@ -1,34 +1,14 @@
--- A table and its list: packing is undone by reading, a kept table is its list packed, and the packing of a list is kept. Assumes nothing.
+-- A table and its list: packing is undone by reading, a kept table is its list packed, the packing of a list is kept, and a cell in use is the list's
+-- element.
 use mathlib.Core.Path.{_≡_, refl}
 use mathlib.Core.List.{List}
-use Prim.Native.Nat.{ℕ, _≤_}
-use lib.ListN.{length, replicate}
+use Prim.Native.Nat.{ℕ, _≤_, _<_}
+use lib.ListN.{length, getD, replicate}
+use lib.Seq.{getD-take}
 use Rattle.lists.proofs.Filled.{take-packed, filled-packed, filled-count}
 use Rattle.words.specs.declared.Address.{Address}
-use Rattle.tables.specs.Values.{
-  Tables,
-  tablesOf,
-  poolOf,
-  closedPool,
-  freeOf,
-  packFree,
-  liveOf,
-  packLive,
-  holesOf,
-  packHoles,
-  zombiesOf,
-  packZombies,
-  pagesOf,
-  packPages,
-  rootsOf,
-  packRoots,
-  address,
-  region,
-  buffer,
-  hole,
-  zombie,
-  page,
-}
+use Rattle.tables.specs.Bounds.{HOLES, PAGES, ROOTS, SPANS, ZOMBIES}
+use Rattle.tables.specs.Values.{Tables, tablesOf, poolOf, closedPool, freeOf, packFree, liveOf, packLive, holesOf, packHoles, zombiesOf, packZombies, pagesOf, packPages, rootsOf, packRoots, page, emptyRoot, emptyBuffer, emptyHole, emptyPage, emptyRegion, emptyZombie}
 use Rattle.tables.specs.Kept.{KeptFree, KeptLive, KeptHoles, KeptZombies, KeptPages, KeptRoots, KeptPool}
 use Rattle.tables.specs.declared.FreeRegion.{FreeRegion}
 use Rattle.tables.specs.declared.FreeRegions.{FreeRegions}
@@ -45,7 +25,7 @@ use Rattle.tables.specs.declared.Pool.{Pool}
 
 pub free-pack : (l : List FreeRegion) → freeOf (packFree l) ≡ l
 unfolding freeOf packFree
-free-pack l = take-packed 128 (region 0 0 0 0) l
+free-pack l = take-packed SPANS emptyRegion l
 
 pub free-whole : (t : FreeRegions) → KeptFree t → t ≡ packFree (freeOf t)
 unfolding freeOf packFree
@@ -55,9 +35,13 @@ pub free-count : (t : FreeRegions) → KeptFree t → t .count ≡ length (freeO
 unfolding freeOf
 free-count t k = filled-count k
 
-pub free-kept : (l : List FreeRegion) → length l ≤ 128 → KeptFree (packFree l)
+pub free-cell : (t : FreeRegions) (i : ℕ) → i < t .count → getD (freeOf t) i emptyRegion ≡ getD (t .cells) i emptyRegion
+unfolding freeOf
+free-cell t i h = getD-take (t .count) (t .cells) i emptyRegion h
+
+pub free-kept : (l : List FreeRegion) → length l ≤ SPANS → KeptFree (packFree l)
 unfolding packFree
-free-kept l h = filled-packed 128 (region 0 0 0 0) l h
+free-kept l h = filled-packed SPANS emptyRegion l h
 
 pub free-packed-count : (l : List FreeRegion) → packFree l .count ≡ length l
 unfolding packFree
@@ -65,7 +49,7 @@ free-packed-count l = refl
 
 pub live-pack : (l : List LiveBuffer) → liveOf (packLive l) ≡ l
 unfolding liveOf packLive
-live-pack l = take-packed 128 (buffer 0 0 0) l
+live-pack l = take-packed SPANS emptyBuffer l
 
 pub live-whole : (t : LiveBuffers) → KeptLive t → t ≡ packLive (liveOf t)
 unfolding liveOf packLive
@@ -75,9 +59,13 @@ pub live-count : (t : LiveBuffers) → KeptLive t → t .count ≡ length (liveO
 unfolding liveOf
 live-count t k = filled-count k
 
-pub live-kept : (l : List LiveBuffer) → length l ≤ 128 → KeptLive (packLive l)
+pub live-cell : (t : LiveBuffers) (i : ℕ) → i < t .count → getD (liveOf t) i emptyBuffer ≡ getD (t .cells) i emptyBuffer
+unfolding liveOf
+live-cell t i h = getD-take (t .count) (t .cells) i emptyBuffer h
+
+pub live-kept : (l : List LiveBuffer) → length l ≤ SPANS → KeptLive (packLive l)
 unfolding packLive
-live-kept l h = filled-packed 128 (buffer 0 0 0) l h
+live-kept l h = filled-packed SPANS emptyBuffer l h
 
 pub live-packed-count : (l : List LiveBuffer) → packLive l .count ≡ length l
 unfolding packLive
@@ -85,7 +73,7 @@ live-packed-count l = refl
 
 pub holes-pack : (l : List Hole) → holesOf (packHoles l) ≡ l
 unfolding holesOf packHoles
-holes-pack l = take-packed 512 (hole 0 0) l
+holes-pack l = take-packed HOLES emptyHole l
 
 pub holes-whole : (t : Holes) → KeptHoles t → t ≡ packHoles (holesOf t)
 unfolding holesOf packHoles
@@ -95,9 +83,13 @@ pub holes-count : (t : Holes) → KeptHoles t → t .count ≡ length (holesOf t
 unfolding holesOf
 holes-count t k = filled-count k
 
-pub holes-kept : (l : List Hole) → length l ≤ 512 → KeptHoles (packHoles l)
+pub holes-cell : (t : Holes) (i : ℕ) → i < t .count → getD (holesOf t) i emptyHole ≡ getD (t .cells) i emptyHole
+unfolding holesOf
+holes-cell t i h = getD-take (t .count) (t .cells) i emptyHole h
+
+pub holes-kept : (l : List Hole) → length l ≤ HOLES → KeptHoles (packHoles l)
 unfolding packHoles
-holes-kept l h = filled-packed 512 (hole 0 0) l h
+holes-kept l h = filled-packed HOLES emptyHole l h
 
 pub holes-packed-count : (l : List Hole) → packHoles l .count ≡ length l
 unfolding packHoles
@@ -105,7 +97,7 @@ holes-packed-count l = refl
 
 pub zombies-pack : (l : List Zombie) → zombiesOf (packZombies l) ≡ l
 unfolding zombiesOf packZombies
-zombies-pack l = take-packed 128 (zombie 0 0 0) l
+zombies-pack l = take-packed ZOMBIES emptyZombie l
 
 pub zombies-whole : (t : Zombies) → KeptZombies t → t ≡ packZombies (zombiesOf t)
 unfolding zombiesOf packZombies
@@ -115,9 +107,13 @@ pub zombies-count : (t : Zombies) → KeptZombies t → t .count ≡ length (zom
 unfolding zombiesOf
 zombies-count t k = filled-count k
 
-pub zombies-kept : (l : List Zombie) → length l ≤ 128 → KeptZombies (packZombies l)
+pub zombies-cell : (t : Zombies) (i : ℕ) → i < t .count → getD (zombiesOf t) i emptyZombie ≡ getD (t .cells) i emptyZombie
+unfolding zombiesOf
+zombies-cell t i h = getD-take (t .count) (t .cells) i emptyZombie h
+
+pub zombies-kept : (l : List Zombie) → length l ≤ ZOMBIES → KeptZombies (packZombies l)
 unfolding packZombies
-zombies-kept l h = filled-packed 128 (zombie 0 0 0) l h
+zombies-kept l h = filled-packed ZOMBIES emptyZombie l h
 
 pub zombies-packed-count : (l : List Zombie) → packZombies l .count ≡ length l
 unfolding packZombies
@@ -125,7 +121,7 @@ zombies-packed-count l = refl
 
 pub pages-pack : (l : List Page) → pagesOf (packPages l) ≡ l
 unfolding pagesOf packPages
-pages-pack l = take-packed 256 (page 0 0) l
+pages-pack l = take-packed PAGES emptyPage l
 
 pub pages-whole : (t : Pages) → KeptPages t → t ≡ packPages (pagesOf t)
 unfolding pagesOf packPages
@@ -135,9 +131,13 @@ pub pages-count : (t : Pages) → KeptPages t → t .count ≡ length (pagesOf t
 unfolding pagesOf
 pages-count t k = filled-count k
 
-pub pages-kept : (l : List Page) → length l ≤ 256 → KeptPages (packPages l)
+pub pages-cell : (t : Pages) (i : ℕ) → i < t .count → getD (pagesOf t) i emptyPage ≡ getD (t .cells) i emptyPage
+unfolding pagesOf
+pages-cell t i h = getD-take (t .count) (t .cells) i emptyPage h
+
+pub pages-kept : (l : List Page) → length l ≤ PAGES → KeptPages (packPages l)
 unfolding packPages
-pages-kept l h = filled-packed 256 (page 0 0) l h
+pages-kept l h = filled-packed PAGES emptyPage l h
 
 pub pages-packed-count : (l : List Page) → packPages l .count ≡ length l
 unfolding packPages
@@ -145,7 +145,7 @@ pages-packed-count l = refl
 
 pub roots-pack : (l : List Address) → rootsOf (packRoots l) ≡ l
 unfolding rootsOf packRoots
-roots-pack l = take-packed 16 (address 0) l
+roots-pack l = take-packed ROOTS emptyRoot l
 
 pub roots-whole : (t : Roots) → KeptRoots t → t ≡ packRoots (rootsOf t)
 unfolding rootsOf packRoots
@@ -155,9 +155,9 @@ pub roots-count : (t : Roots) → KeptRoots t → t .count ≡ length (rootsOf t
 unfolding rootsOf
 roots-count t k = filled-count k
 
-pub roots-kept : (l : List Address) → length l ≤ 16 → KeptRoots (packRoots l)
+pub roots-kept : (l : List Address) → length l ≤ ROOTS → KeptRoots (packRoots l)
 unfolding packRoots
-roots-kept l h = filled-packed 16 (address 0) l h
+roots-kept l h = filled-packed ROOTS emptyRoot l h
 
 pub roots-packed-count : (l : List Address) → packRoots l .count ≡ length l
 unfolding packRoots
@@ -168,9 +168,7 @@ pub tables-pool : (state : ℕ) (t : Tables) → tablesOf (poolOf state t) ≡ t
 unfolding tablesOf poolOf
 tables-pool state t =
     λ i. record {
-      page = t .page;
-      va = t .va;
-      counter = t .counter;
+      fields = t .fields;
       free = free-pack (t .free) i;
       live = live-pack (t .live) i;
       holes = holes-pack (t .holes) i;
@@ -204,12 +202,12 @@ pub closed-is-zero :
       page = 0;
       va = 0;
       counter = 0;
-      free = record { cells = replicate 128 (region 0 0 0 0); count = 0 };
-      live = record { cells = replicate 128 (buffer 0 0 0); count = 0 };
-      holes = record { cells = replicate 512 (hole 0 0); count = 0 };
-      zombies = record { cells = replicate 128 (zombie 0 0 0); count = 0 };
-      pages = record { cells = replicate 256 (page 0 0); count = 0 };
-      roots = record { cells = replicate 16 (address 0); count = 0 };
+      free = record { cells = replicate SPANS emptyRegion; count = 0 };
+      live = record { cells = replicate SPANS emptyBuffer; count = 0 };
+      holes = record { cells = replicate HOLES emptyHole; count = 0 };
+      zombies = record { cells = replicate ZOMBIES emptyZombie; count = 0 };
+      pages = record { cells = replicate PAGES emptyPage; count = 0 };
+      roots = record { cells = replicate ROOTS emptyRoot; count = 0 };
     }
 unfolding poolOf packFree packLive packHoles packZombies packPages packRoots
 closed-is-zero = refl

@@ -1,4 +1,4 @@
--- Document 01, "Driver calls, log and trace": each driver call takes one lent answer and leaves one record.
+-- docs/RULES.md 2: a driver call takes the next answer and leaves a record.
 use mathlib.Core.Bool.{Bool, cond}
 use mathlib.Core.List.{[], _∷_}
 use Prim.Native.Nat.{ℕ}
@@ -10,13 +10,13 @@ use Rattle.words.specs.declared.Answer.the-variants.{Done, Failed, Missing}
 use Rattle.tables.specs.Steps.{Ending, on, ends, Step, Act, went, _>>=_, _>>_, give, nothing, endIf}
 use Rattle.tables.specs.declared.Outcome.the-variants.{DriverFailed, AnswersRanOut}
 
--- 17: answers ran out.
+-- 17 where no answer is left.
 abbrev pub heard : Answer → Ending Answer
 heard (Done v) = on (Done v)
 heard (Failed c) = on (Failed c)
 heard Missing = ends AnswersRanOut
 
--- A driver call, by the record that it leaves for an answer. Where none is left, that is the wanted call, its code and any field not yet known 0.
+-- A driver call, by the record that it leaves for an answer; a missing one leaves 0 in its place (docs/RULES.md 2.5).
 abbrev pub driver : (Answer → Record) → Step Answer
 driver row = λ xs k t. let x = lent xs k in went (heard x) t (row x ∷ [])
 
@@ -53,17 +53,17 @@ sync s = driver (λ x. Words.sync s 0 (codeOf x))
 unfoldable pub giveback : ℕ → ℕ → Step Answer
 giveback a va = driver (λ x. Words.giveback a va (codeOf x))
 
--- 14: another driver failure.
+-- A failure ends the call with 14.
 abbrev pub must : Step Answer → Act
 must m = do
   x ← m
   endIf (failed x) (DriverFailed (codeOf x))
 
--- a failure is ignored
+-- a failure is passed over
 abbrev pub try : Step Answer → Act
 try m = m >> nothing
 
--- asked never stops a call
+-- a failure says that it is not complete
 abbrev pub isComplete : ℕ → Step Bool
 isComplete id = do
   x ← ask id

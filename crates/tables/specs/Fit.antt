@@ -1,4 +1,4 @@
--- Document 01, **Malloc** 2, fit.
+-- docs/RULES.md 3.11: fit.
 use mathlib.Core.Bool.{cond}
 use mathlib.Core.List.{List, [], _∷_, map}
 use mathlib.Core.Option.{Option, some, none}
@@ -13,15 +13,15 @@ use Rattle.tables.specs.InsertFree.{from}
 use Rattle.tables.specs.Pull.{ownOf}
 use Rattle.tables.specs.declared.FreeRegion.{FreeRegion}
 
--- the free regions at least as large
+-- the free regions of at least `n` bytes
 abbrev pub candidates : ℕ → List FreeRegion → List FreeRegion
 candidates n = filter (λ r. leb n (r .size))
 
--- the smallest, lowest address on ties
+-- the smallest, the first of equal ones
 abbrev pub smallest : List FreeRegion → Option FreeRegion
 smallest = least (λ r. r .size)
 
--- Ask every candidate in address order: the complete ones.
+-- Every one of a list is asked: the complete ones.
 abbrev pub askAll : List FreeRegion → Step (List FreeRegion)
 askAll [] = give []
 askAll (r ∷ l) = do
@@ -32,21 +32,21 @@ askAll (r ∷ l) = do
 abbrev pub onStream : ℕ → FreeRegion → FreeRegion
 onStream s r = region (from r) (r .size) s (r .id .0)
 
--- It becomes this stream's.
+-- In the table it is on the stream `s` now, with its id.
 unfoldable pub takeOver : ℕ → Option FreeRegion → Step (Option FreeRegion)
 takeOver s none = give none
 takeOver s (some r) = do
   changeFree (map (λ q. cond (eqb (from q) (from r)) (onStream s q) q))
   give (some (onStream s r))
 
--- If none is on this stream, ask every candidate; the smallest complete one becomes this stream's.
+-- Candidates are asked only where none is on the stream `s`.
 unfoldable pub orOther : ℕ → List FreeRegion → Option FreeRegion → Step (Option FreeRegion)
 orOther s l (some r) = give (some r)
 orOther s l none = do
   done ← askAll l
   takeOver s (smallest done)
 
--- Fit: among free regions at least as large, the smallest on the same stream, without asking.
+-- The smallest candidate on the stream `s`, or a complete one of another.
 unfoldable pub fit : ℕ → ℕ → Step (Option FreeRegion)
 fit n s = do
   t ← tables

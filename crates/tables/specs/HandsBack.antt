@@ -1,10 +1,11 @@
--- Document 01, "What each number hands back": what a call leaves, by the number that it answers.
-use mathlib.Core.Bool.{cond, _||_, not}
+-- docs/RULES.md 4.5: what a call leaves, by the number that it answers.
+use mathlib.Core.Bool.{Bool, cond, _||_, not}
 use mathlib.Core.List.{List, []}
-use Prim.Native.Nat.{ℕ, _-_, _^_}
+use Prim.Native.Nat.{ℕ, _-_}
 use lib.Dec.{ltb, leb, eqb}
 use lib.ListN.{length}
 use Rattle.words.specs.declared.Record.{Record}
+use Rattle.tables.specs.Bounds.{IDS, LOG}
 use Rattle.tables.specs.Values.{Tables, closed, opened, stopped, poolOf}
 use Rattle.tables.specs.Outcomes.{is}
 use Rattle.tables.specs.Steps.{Ending, on, ends, Went}
@@ -20,11 +21,11 @@ pub record Reply : Type 0 where
   pub records : List Record
   pub taken : ℕ
 
--- One answer for each record, but the log of 17 ends with the wanted call.
+-- One answer for each record, but 17's last has none.
 abbrev pub reply : Pool → Outcome → List Record → Reply
 reply p o rs = record { pool = p; outcome = o; records = rs; taken = cond (is 17 o) (length rs - 1) (length rs) }
 
--- 1 to 7, 16 and 19 change nothing and log nothing.
+-- A refusal at entry: the pool as it came, and no record.
 abbrev pub refused : Pool → Outcome → Reply
 refused p o = reply p o []
 
@@ -32,19 +33,22 @@ abbrev pub outcomeOf : Ending Outcome → Outcome
 outcomeOf (on o) = o
 outcomeOf (ends o) = o
 
--- 14 and 15 leave the tables as they are at that call, and the pool stopped. 17 leaves the pool as at entry.
+-- The tables as the steps left them, stopped by 14 and 15; at 17 the pool that came.
 abbrev pub poolAfter : Pool → Tables → Outcome → Pool
 poolAfter p t o = cond (is 17 o) p (poolOf (cond (is 14 o || is 15 o) stopped opened) t)
 
 unfoldable pub finished : Pool → Went Outcome → Reply
 finished p w = reply (poolAfter p (w .tables) (outcomeOf (w .ending))) (outcomeOf (w .ending)) (w .records)
 
--- 1: pool closed. 2: stopped. 3: not well formed. 4: log under 2,048 records. 5: id counter at least 2^62. Then as `r` says.
--- `log` counts the records that the log has room for.
+-- 4, wherever it is tested: `log` counts the records that the log has room for.
+abbrev pub shortLog : ℕ → Bool
+shortLog log = ltb log LOG
+
+-- docs/RULES.md 4.2: 1 to 5, in this order, and then as `r` says.
 unfoldable pub admitted : Pool → ℕ → Reply → Reply
 admitted p log r =
     cond (eqb (p .state) closed) (refused p PoolClosed)
     (cond (eqb (p .state) stopped) (refused p PoolStopped)
     (cond (not (wellFormed p)) (refused p NotWellFormed)
-    (cond (ltb log 2048) (refused p ShortLog)
-    (cond (leb (2 ^ 62) (p .counter)) (refused p IdsSpent) r))))
+    (cond (shortLog log) (refused p ShortLog)
+    (cond (leb IDS (p .counter)) (refused p IdsSpent) r))))

@@ -1,4 +1,4 @@
--- Document 01, **Insert free.**
+-- docs/RULES.md 3.2: insert free.
 use mathlib.Core.Bool.{Bool, cond, _&&_, _||_, not}
 use mathlib.Core.List.{List, foldr}
 use Prim.Native.Nat.{ℕ, _+_, _-_, min}
@@ -29,11 +29,11 @@ putFree = put from
 abbrev pub withoutFree : ℕ → List FreeRegion → List FreeRegion
 withoutFree = without from
 
--- what the first `n` bytes leave of the region `r` stays free, with its event, id and stream
+-- what the first `n` bytes leave of the region `r` stays free, with its stream and id
 abbrev pub putRest : ℕ → FreeRegion → List FreeRegion → List FreeRegion
 putRest n r l = cond (eqb (r .size) n) l (putFree (region (from r + n) (r .size - n) (r .stream) (r .id .0)) l)
 
--- `q` is a touching next, or previous, region of the same stream
+-- `q` ends at the range's start or starts at its end, and is on the stream `s`
 abbrev pub merges : ℕ → ℕ → ℕ → FreeRegion → Bool
 merges a n s q = (eqb (from q) (a + n) || eqb (upto q) a) && eqb (q .stream) s
 
@@ -41,13 +41,13 @@ merges a n s q = (eqb (from q) (a + n) || eqb (upto q) a) && eqb (q .stream) s
 abbrev pub merged : ℕ → ℕ → ℕ → ℕ → List FreeRegion → FreeRegion
 merged a n s i near = region (foldr (λ q b. min (from q) b) a near) (n + bytes near) s i
 
--- Insert free. Merge with a touching next, then previous, region of the same stream; record a fresh event whose id is the counter.
+-- What merges leaves the table before the record: where that fails, it is in none.
 unfoldable pub insertFree : ℕ → ℕ → ℕ → Step FreeRegion
 insertFree a n s = do
   t ← tables
-  let r = merged a n s (t .counter) (filter (merges a n s) (t .free))
+  let r = merged a n s (t .fields .counter) (filter (merges a n s) (t .free))
   changeFree (filter (λ q. not (merges a n s q)))
-  must (recordEvent (t .counter) s)
+  must (recordEvent (t .fields .counter) s)
   changeFree (putFree r)
   countOn
   give r

@@ -1,4 +1,4 @@
--- Document 01, **Insert hole.**
+-- docs/RULES.md 3.1: insert hole.
 use mathlib.Core.Bool.{cond}
 use mathlib.Core.List.{List, [], _∷_}
 use Prim.Native.Nat.{ℕ, _+_, _≤_, _<_}
@@ -23,7 +23,7 @@ abbrev pub insertRange : ℕ → ℕ → List Hole → List Hole
 insertRange a n [] = hole a n ∷ []
 insertRange a n (h ∷ l) = cond (ltb a (from h)) (glue (hole a n) (h ∷ l)) (glue h (insertRange a n l))
 
--- Insert hole. Merge with both touching holes, across roots too. (Make room: size 0 is ignored.)
+-- A range of size 0 is no hole.
 unfoldable pub insertHole : ℕ → ℕ → List Hole → List Hole
 insertHole a n l = cond (eqb n 0) l (insertRange a n l)
 

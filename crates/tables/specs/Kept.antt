@@ -1,6 +1,7 @@
 -- What each table is below the entry points: its count within the ceiling, and 0 in every cell past it.
 use Rattle.lists.specs.Cells.{Filled}
-use Rattle.tables.specs.Values.{address, region, buffer, hole, zombie, page}
+use Rattle.tables.specs.Bounds.{HOLES, PAGES, ROOTS, SPANS, ZOMBIES}
+use Rattle.tables.specs.Values.{emptyRoot, emptyBuffer, emptyHole, emptyPage, emptyRegion, emptyZombie}
 use Rattle.tables.specs.declared.FreeRegions.{FreeRegions}
 use Rattle.tables.specs.declared.LiveBuffers.{LiveBuffers}
 use Rattle.tables.specs.declared.Holes.{Holes}
@@ -10,22 +11,22 @@ use Rattle.tables.specs.declared.Roots.{Roots}
 use Rattle.tables.specs.declared.Pool.{Pool}
 
 abbrev pub KeptFree : FreeRegions → Type 0
-KeptFree t = Filled 128 (region 0 0 0 0) (t .cells) (t .count)
+KeptFree t = Filled SPANS emptyRegion (t .cells) (t .count)
 
 abbrev pub KeptLive : LiveBuffers → Type 0
-KeptLive t = Filled 128 (buffer 0 0 0) (t .cells) (t .count)
+KeptLive t = Filled SPANS emptyBuffer (t .cells) (t .count)
 
 abbrev pub KeptHoles : Holes → Type 0
-KeptHoles t = Filled 512 (hole 0 0) (t .cells) (t .count)
+KeptHoles t = Filled HOLES emptyHole (t .cells) (t .count)
 
 abbrev pub KeptZombies : Zombies → Type 0
-KeptZombies t = Filled 128 (zombie 0 0 0) (t .cells) (t .count)
+KeptZombies t = Filled ZOMBIES emptyZombie (t .cells) (t .count)
 
 abbrev pub KeptPages : Pages → Type 0
-KeptPages t = Filled 256 (page 0 0) (t .cells) (t .count)
+KeptPages t = Filled PAGES emptyPage (t .cells) (t .count)
 
 abbrev pub KeptRoots : Roots → Type 0
-KeptRoots t = Filled 16 (address 0) (t .cells) (t .count)
+KeptRoots t = Filled ROOTS emptyRoot (t .cells) (t .count)
 
 pub record KeptPool (p : Pool) : Type 0 where
   pub free : KeptFree (p .free)

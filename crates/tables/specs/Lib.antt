@@ -1,3 +1,4 @@
+pub mod Bounds
 pub mod Values
 pub mod Kept
 pub mod Choices
@@ -18,4 +19,5 @@ pub mod Open
 pub mod Malloc
 pub mod Free
 pub mod Close
+pub mod Calls
 pub mod Session

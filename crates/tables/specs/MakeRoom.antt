@@ -1,4 +1,4 @@
--- Document 01, **Make room.** Its parts are in TakeRange, NewPages and Pull.
+-- docs/RULES.md 3.9: make room. Its parts are in TakeRange, NewPages and Pull.
 use mathlib.Core.Bool.{cond}
 use mathlib.Core.Option.{Option, some, none}
 use Prim.Native.Nat.{ℕ, _-_, _/_}
@@ -11,12 +11,11 @@ use Rattle.tables.specs.NewPages.{Room, makePages, insertNew}
 use Rattle.tables.specs.Pull.{pullIn}
 use Rattle.tables.specs.declared.FreeRegion.{FreeRegion}
 
--- Missing = requested minus all free bytes, not below 0.
+-- what the free bytes of all streams lack of `n`
 abbrev pub missing : ℕ → Tables → ℕ
 missing n t = n - bytes (t .free)
 
--- The new region's size, merged parts included, counts towards the request. Still lacking: pull other regions. What isn't used of the taken hole after
--- such a merge is dropped from all tables.
+-- A new region that is too small, with what it merged with, is filled up. So the end of the range may stay unused, and is then in no table.
 unfoldable pub fill : Room → Option FreeRegion → Step FreeRegion
 fill o none = do
   t ← tables
@@ -30,6 +29,6 @@ makeRoom n s = do
   t ← tables
   a ← takeRange n
   let o : Room = record { start = a; size = n; missing = missing n t; stream = s }
-  makePages (o .missing / t .page) o a
+  makePages (o .missing / t .fields .page) o a
   r ← insertNew o
   fill o r

@@ -1,11 +1,12 @@
--- Document 01, **Malloc.** `xs` are the lent answers, `log` counts the records that the log has room for.
+-- docs/RULES.md 3.14: malloc. `xs` are the lent answers, `log` counts the records that the log has room for.
 use mathlib.Core.Bool.{Bool, true, false, cond, _&&_, _||_, not}
 use mathlib.Core.List.{List}
 use mathlib.Core.Option.{Option, some, none}
-use Prim.Native.Nat.{ℕ, _+_, _/_, _%_}
+use Prim.Native.Nat.{ℕ, _+_, _-_, _/_, _%_}
 use lib.Dec.{ltb, leb, eqb}
 use lib.ListN.{length}
 use Rattle.lists.specs.Order.{put}
+use Rattle.tables.specs.Bounds.{HOLES, PAGES, ROOTS, SPANS, ZOMBIES}
 use Rattle.tables.specs.Values.{address, buffer, atEntry}
 use Rattle.tables.specs.Steps.{Step, Act, _>>=_, _>>_, give, endIf, tables, changeFree, changeLive}
 use Rattle.tables.specs.InsertFree.{from, putRest, withoutFree}
@@ -24,24 +25,24 @@ abbrev pub noHole : Option Hole → Bool
 noHole none = true
 noHole (some h) = false
 
--- No fit: 8, size > va_size; 9, active + missing pages > 256; 10, zombies + free regions > 128, or these and holes > 511; 11, no hole suffices, 16 roots.
+-- docs/RULES.md 4.3: 8, 9, 10, 11, in this order.
 unfoldable pub roomRefused : ℕ → Act
 roomRefused n = do
   t ← tables
   let pulled = length (t .zombies) + length (t .free)
-  endIf (ltb (t .va) n) (RequestedExceedsVa n (t .va))
-  endIf (ltb 256 (length (t .pages) + missing n t / t .page)) PagesFull
-  endIf (ltb 128 pulled || ltb 511 (pulled + length (t .holes))) ZombiesFull
-  endIf (noHole (smallestHole n (t .holes)) && leb 16 (length (t .roots))) RootsFull
+  endIf (ltb (t .fields .va) n) (RequestedExceedsVa n (t .fields .va))
+  endIf (ltb PAGES (length (t .pages) + missing n t / t .fields .page)) PagesFull
+  endIf (ltb ZOMBIES pulled || ltb (HOLES - 1) (pulled + length (t .holes))) ZombiesFull
+  endIf (noHole (smallestHole n (t .holes)) && leb ROOTS (length (t .roots))) RootsFull
 
--- 3. Otherwise make room.
+-- Room is made only where nothing fits.
 unfoldable pub orRoom : ℕ → ℕ → Option FreeRegion → Step FreeRegion
 orRoom n s (some r) = give r
 orRoom n s none = do
   roomRefused n
   makeRoom n s
 
--- 4. The prefix is handed over; a tail keeps event, id and the region's stream. Success gives address, size.
+-- docs/RULES.md 3.12: the region's first bytes are the buffer, what they leave stays free.
 unfoldable pub handOver : ℕ → ℕ → FreeRegion → Step Outcome
 handOver n s r = do
   changeFree (withoutFree (from r))
@@ -49,7 +50,7 @@ handOver n s r = do
   changeLive (put (λ b. b .start .0) (buffer (from r) n s))
   give (Allocated (address (from r)) n)
 
--- 1. Cleanup. 2. Fit. 3. Otherwise make room. 4. The prefix is handed over.
+-- The order matters: 8 comes after the fit (docs/RULES.md 9.3).
 unfoldable pub mallocSteps : ℕ → ℕ → Step Outcome
 mallocSteps n s = do
   cleanup
@@ -57,12 +58,12 @@ mallocSteps n s = do
   r ← orRoom n s o
   handOver n s r
 
--- Order: 1 to 7 as numbered, then the steps. 6: size 0 or no page multiple. 7: 128 spans at entry.
+-- docs/RULES.md 4.2: 1 to 7, in this order, and then the steps.
 unfoldable pub mallocBy : (ℕ → ℕ → Step Outcome) → Pool → ℕ → ℕ → List ℕ → ℕ → Reply
 mallocBy steps p n s xs log =
     admitted p log
     (cond (eqb n 0 || not (eqb (n % p .page) 0)) (refused p (BadSize n))
-    (cond (leb 128 (p .free .count + p .live .count)) (refused p SpansFull)
+    (cond (leb SPANS (p .free .count + p .live .count)) (refused p SpansFull)
     (finished p (steps n s xs 0 (atEntry p)))))
 
 abbrev pub malloc : Pool → ℕ → ℕ → List ℕ → ℕ → Reply

@@ -1,4 +1,4 @@
--- Document 01, **Make room**, the missing pages: create and map each, or roll back; then access and insert as free.
+-- docs/RULES.md 3.4 to 3.6: the missing pages are made, or all taken back; then they are a free region.
 use mathlib.Core.Bool.{Bool, cond, _&&_}
 use mathlib.Core.List.{List}
 use mathlib.Core.Option.{Option, some, none}
@@ -33,11 +33,11 @@ mapPage a h = do
   must (map a h)
   changePages (put at (page a h))
 
--- unmap and release a new page, failures ignored
+-- a new page is taken back, whatever the driver says
 unfoldable pub unmake : Page → Act
 unmake g = do
   t ← tables
-  try (unmap (at g) (t .page))
+  try (unmap (at g) (t .fields .page))
   changePages (without at (at g))
   try (release (g .handle .0))
 
@@ -45,7 +45,7 @@ unmake g = do
 abbrev pub newPages : Room → ℕ → List Page → List Page
 newPages o a = filter (λ g. leb (o .start) (at g) && ltb (at g) a)
 
--- Creation code 2: unmap and release each new page in order, reinsert the whole range. 13: missing bytes, bytes created.
+-- docs/RULES.md 3.5: every new page is taken back, and the range, all of it, is a hole again.
 unfoldable pub rollBack : Room → ℕ → Act
 rollBack o a = do
   t ← tables
@@ -53,7 +53,7 @@ rollBack o a = do
   changeHoles (insertHole (o .start) (o .size))
   end (OutOfMemory (o .missing) (a - o .start))
 
--- Incredible: a handle already active. One created earlier in the call is active too.
+-- docs/RULES.md 4.4: a handle that can't be true. One made earlier in the call is active too.
 abbrev pub isActive : ℕ → List Page → Bool
 isActive h = any (λ g. eqb (g .handle .0) h)
 
@@ -65,17 +65,17 @@ created o a x = do
   endIf (failed x) (DriverFailed (codeOf x))
   endIf (isActive (valueOf x) (t .pages)) Incredible
 
--- Per missing page create, map. `k` pages are to be made, from `a` on.
+-- `k` pages are to be made, from `a` on.
 abbrev pub makePages : ℕ → Room → ℕ → Act
 makePages zero o a = nothing
 makePages (suc k) o a = do
   t ← tables
-  x ← create (t .page)
+  x ← create (t .fields .page)
   created o a x
   mapPage a (valueOf x)
-  makePages k o (a + t .page)
+  makePages k o (a + t .fields .page)
 
--- If missing > 0: access, then insert as free.
+-- docs/RULES.md 3.6: the new pages, if there are any, become a free region.
 unfoldable pub insertNew : Room → Step (Option FreeRegion)
 insertNew o =
     cond (eqb (o .missing) 0) (give none) (do

@@ -1,7 +1,8 @@
--- Document 01, "What each number hands back": the number, first and second of every outcome.
+-- docs/RULES.md 4.1: the number, first and second of every outcome.
 use mathlib.Core.Bool.{Bool}
 use Prim.Native.Nat.{ℕ}
 use lib.Dec.{eqb}
+use Rattle.tables.specs.declared.Numbers.{Numbers}
 use Rattle.tables.specs.declared.Outcome.{Outcome}
 use Rattle.tables.specs.declared.Outcome.the-variants.{
   Opened,
@@ -27,11 +28,6 @@ use Rattle.tables.specs.declared.Outcome.the-variants.{
   AnswersRanOut,
   BadConfiguration,
 }
-
-pub record Numbers : Type 0 where
-  pub number : ℕ
-  pub first : ℕ
-  pub second : ℕ
 
 abbrev pub answers : ℕ → ℕ → ℕ → Numbers
 answers n a b = record { number = n; first = a; second = b }

@@ -1,4 +1,4 @@
--- Document 01, **Make room**, still lacking: pull other regions, and move their pages.
+-- docs/RULES.md 3.7, 3.8: other regions are pulled, and their pages moved.
 use mathlib.Core.Bool.{cond, not}
 use mathlib.Core.List.{List, [], _∷_, _++_}
 use Prim.Native.Nat.{ℕ, zero, suc, _+_, _-_, _/_, min}
@@ -21,18 +21,18 @@ ownOf s = filter (λ r. eqb (r .stream) s)
 abbrev pub othersOf : ℕ → List FreeRegion → List FreeRegion
 othersOf s = filter (λ r. not (eqb (r .stream) s))
 
--- same stream first, then by id
+-- those on the stream, then the others, each part by ascending id
 abbrev pub pullOrder : ℕ → List FreeRegion → List FreeRegion
 pullOrder s l = sorted (λ r. r .id .0) (ownOf s l) ++ sorted (λ r. r .id .0) (othersOf s l)
 
--- Another stream's is asked, and if not complete, waited for.
+-- The stream waits for another's region, unless that is complete.
 unfoldable pub settle : ℕ → FreeRegion → Act
 settle s r =
     cond (eqb (r .stream) s) nothing (do
       c ← isComplete (r .id .0)
       cond c nothing (must (wait (r .id .0) s)))
 
--- The part taken becomes a zombie with the region's event; a rest stays free unchanged.
+-- The first bytes of a region, all or as many as lack, become a zombie; what they leave goes back.
 unfoldable pub pullOne : ℕ → ℕ → FreeRegion → Step Zombie
 pullOne s lacks r = do
   let z = zombie (from r) (min lacks (r .size)) (r .id .0)
@@ -42,7 +42,7 @@ pullOne s lacks r = do
   changeFree (putRest (z .size) r)
   give z
 
--- Pull regions in this order, up to what lacks.
+-- One region after the other, until nothing lacks.
 abbrev pub pull : List FreeRegion → ℕ → ℕ → Step (List Zombie)
 pull [] s lacks = give []
 pull (r ∷ l) s lacks =
@@ -71,14 +71,14 @@ movePages (b ∷ l) a = do
   t ← tables
   changePages (without at b)
   mapPage a (handleAt b (t .pages))
-  movePages l (a + t .page)
+  movePages l (a + t .fields .page)
 
--- Pull other regions, up to what lacks. Their pages are mapped after the new ones, in that order; access; insert as free.
+-- `lacks` bytes are pulled out of the regions `others`, and stand behind the new pages.
 unfoldable pub pullIn : Room → ℕ → List FreeRegion → Step FreeRegion
 pullIn o lacks others = do
   let a = o .start + o .missing
   zs ← pull (pullOrder (o .stream) others) (o .stream) lacks
   t ← tables
-  movePages (pagesIn (t .page) zs) a
+  movePages (pagesIn (t .fields .page) zs) a
   must (access a lacks)
   insertFree a lacks (o .stream)

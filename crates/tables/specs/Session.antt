@@ -8,8 +8,10 @@ use Rattle.words.specs.Answers.{ofPair, lent}
 use Rattle.words.specs.declared.Address.{Address}
 use Rattle.words.specs.declared.Record.{Record}
 use Rattle.words.specs.declared.Word.the-variants.{Reserve, Create, Asked}
+use Rattle.tables.specs.Bounds.{LOG}
 use Rattle.tables.specs.Values.{
   Tables,
+  fields,
   freeOf,
   packFree,
   liveOf,
@@ -27,7 +29,8 @@ use Rattle.tables.specs.Values.{
   atEntry,
   poolOf,
 }
-use Rattle.tables.specs.Outcomes.{Numbers, numbers}
+use Rattle.tables.specs.Outcomes.{numbers}
+use Rattle.tables.specs.declared.Numbers.{Numbers}
 use Rattle.tables.specs.Steps.{Step, _>>=_}
 use Rattle.tables.specs.Driver.{reserve, create, map, access, unmap, release, recordEvent, ask, wait, sync, giveback}
 use Rattle.tables.specs.InsertHole.{insertHole}
@@ -44,6 +47,7 @@ use Rattle.tables.specs.Open.{openSteps, badConfiguration, openFinished,
 use Rattle.tables.specs.Malloc.{roomRefused, orRoom, handOver, mallocSteps, mallocBy}
 use Rattle.tables.specs.Free.{freeSteps, freeFound, free}
 use Rattle.tables.specs.Close.{closeSteps, closeFinished, close}
+use Rattle.tables.specs.Calls.{Call, answerBy}
 use Rattle.tables.specs.declared.FreeRegion.{FreeRegion}
 use Rattle.tables.specs.declared.LiveBuffer.{LiveBuffer}
 use Rattle.tables.specs.declared.Hole.{Hole}
@@ -53,10 +57,9 @@ use Rattle.tables.specs.declared.Pool.{Pool}
 use Rattle.tables.specs.declared.Outcome.{Outcome}
 
 pub data Request : Type 0 where
+  -- page size, va_size, initial pages
   opens : ℕ → ℕ → ℕ → Request
-  mallocs : ℕ → ℕ → Request
-  frees : ℕ → Request
-  closes : Request
+  calls : Call → Request
 
 pub record Row : Type 0 where
   pub request : Request
@@ -66,13 +69,11 @@ pub record Row : Type 0 where
   pub state : ℕ
   pub tables : Tables
 
--- The granularity is the page size with no override, the initial stream 0, and the log has room; a malloc goes by `steps`. Whoever unfolds this unfolds all the rules.
-unfoldable pub answerBy : (ℕ → ℕ → Step Outcome) → Pool → Request → List ℕ → Reply
+-- As in replay (docs/RULES.md 7.3); a malloc goes by `steps`. Whoever unfolds this unfolds all the rules.
+unfoldable pub repliedBy : (ℕ → ℕ → Step Outcome) → Pool → Request → List ℕ → Reply
 unfolding _>>=_ freeOf packFree liveOf packLive holesOf packHoles zombiesOf packZombies pagesOf packPages rootsOf packRoots tablesOf inOrder poolOf ofPair lent reserve create map access unmap release recordEvent ask wait sync giveback insertHole insertFree smallestHole cutHole credible reserveRoot takeHole takeRange mapPage unmake rollBack created insertNew settle pullOne pullIn fill makeRoom clean cleanup takeOver orOther fit allowed ceilingsKept sound wellFormed finished admitted openSteps badConfiguration openFinished openPool roomRefused orRoom handOver mallocSteps mallocBy freeSteps freeFound free closeSteps closeFinished close
-answerBy steps p (opens page va initial) xs = openPool page 0 va initial 0 xs 2048
-answerBy steps p (mallocs n s) xs = mallocBy steps p n s xs 2048
-answerBy steps p (frees a) xs = free p a xs 2048
-answerBy steps p closes xs = close p xs 2048
+repliedBy steps p (opens page va initial) xs = openPool page 0 va initial 0 xs LOG
+repliedBy steps p (calls c) xs = answerBy steps p c xs LOG
 
 abbrev pub shown : Request → List ℕ → Reply → Row
 shown q xs r =
@@ -82,13 +83,13 @@ shown q xs r =
 abbrev pub playedBy : (ℕ → ℕ → Step Outcome) → Pool → List Row → List Row
 playedBy steps p [] = []
 playedBy steps p (r ∷ l) =
-    let a = answerBy steps p (r .request) (r .answers) in
+    let a = repliedBy steps p (r .request) (r .answers) in
     shown (r .request) (r .answers) a ∷ playedBy steps (a .pool) l
 
 abbrev pub played : Pool → List Row → List Row
 played = playedBy mallocSteps
 
--- The answers that a call's records show: the code; as value the first field for reserve and create, the second for asked, else 0.
+-- The answers that a call's records show, as replay takes them (docs/RULES.md 7.1).
 abbrev pub valueIn : Record → ℕ
 valueIn r = cond (eqb (r .kind) (number Reserve) || eqb (r .kind) (number Create)) (r .first) (cond (eqb (r .kind) (number Asked)) (r .second) 0)
 
@@ -97,10 +98,16 @@ answersIn [] = []
 answersIn (r ∷ l) = r .code ∷ valueIn r ∷ answersIn l
 
 -- a row whose answers are those that its records show
-abbrev pub row : Request → List Record → Numbers → ℕ → Tables → Row
-row q rs o s t = record { request = q; answers = answersIn rs; records = rs; result = o; state = s; tables = t }
+abbrev pub rowOf : Request → List Record → Numbers → ℕ → Tables → Row
+rowOf q rs o s t = record { request = q; answers = answersIn rs; records = rs; result = o; state = s; tables = t }
+
+abbrev pub openRow : ℕ → ℕ → ℕ → List Record → Numbers → ℕ → Tables → Row
+openRow page va initial = rowOf (opens page va initial)
+
+abbrev pub row : Call → List Record → Numbers → ℕ → Tables → Row
+row c = rowOf (calls c)
 
 -- page size, va_size, counter, then the tables: free, live, holes, zombies, pages, roots
 abbrev pub holding : ℕ → ℕ → ℕ → List FreeRegion → List LiveBuffer → List Hole → List Zombie → List Page → List Address → Tables
 holding page va counter free live holes zombies pages roots =
-    record { page = page; va = va; counter = counter; free = free; live = live; holes = holes; zombies = zombies; pages = pages; roots = roots }
+    record { fields = fields page va counter; free = free; live = live; holes = holes; zombies = zombies; pages = pages; roots = roots }

@@ -1,5 +1,5 @@
--- A step of a call: it is lent the answers and knows how many driver calls were made before it; it may change the tables and leaves records; then the
--- call goes on with a value, or ends with an outcome.
+-- docs/RULES.md 3. A step of a call: it is lent the answers and knows how many driver calls were made before it; it may change the tables and leaves
+-- records; then the call goes on with a value, or ends with an outcome.
 use mathlib.Core.Bool.{Bool, cond}
 use mathlib.Core.List.{List, [], _∷_, _++_}
 use Prim.Native.Nat.{ℕ, _+_}
@@ -94,4 +94,4 @@ addRoot a = change (λ t. withRoots (t .roots ++ address a ∷ []) t)
 
 -- the counter's id is spent
 abbrev pub countOn : Act
-countOn = change (λ t. withCounter (t .counter + 1) t)
+countOn = change (λ t. withCounter (t .fields .counter + 1) t)

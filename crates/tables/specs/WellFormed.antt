@@ -1,11 +1,12 @@
--- Document 01, "Well formed", clause by clause.
+-- docs/RULES.md 5: well formed, test by test.
 use mathlib.Core.Bool.{Bool, _&&_, _||_, not}
 use mathlib.Core.List.{List, _++_, map}
-use Prim.Native.Nat.{ℕ, _+_, _-_, _/_, _%_, _^_, min, max}
+use Prim.Native.Nat.{ℕ, _+_, _-_, _/_, _%_, min, max}
 use lib.Dec.{ltb, leb, eqb}
 use Rattle.lists.specs.Tests.{every, pairwise, distinct, same}
 use Rattle.lists.specs.Order.{sorted}
 use Rattle.lists.specs.Walks.{sum, joined}
+use Rattle.tables.specs.Bounds.{END, HOLES, PAGES, ROOTS, SPANS, VA, ZOMBIES}
 use Rattle.tables.specs.Values.{Tables, opened, stopped, atEntry}
 use Rattle.tables.specs.TakeRange.{apart}
 use Rattle.tables.specs.Pull.{starts}
@@ -32,69 +33,69 @@ holesIn t = map (λ h. range (h .start .0) (h .size)) (t .holes)
 abbrev pub spans : Tables → List Range
 spans t = map (λ r. range (r .start .0) (r .size)) (t .free) ++ map (λ b. range (b .start .0) (b .size)) (t .live)
 
--- the ranges of free, live, holes and zombies
+-- the ranges of all four tables
 abbrev pub ranges : Tables → List Range
 ranges t = spans t ++ (holesIn t ++ map (λ z. range (z .start .0) (z .size)) (t .zombies))
 
--- Page size and va_size as open allows: va_size 0, no page multiple or above 2^46 is refused.
+-- 5.2: page size and va_size
 unfoldable pub allowed : ℕ → ℕ → Bool
-allowed page va = not (eqb page 0) && (not (eqb va 0) && (eqb (va % page) 0 && leb va (2 ^ 46)))
+allowed page va = not (eqb page 0) && (not (eqb va 0) && (eqb (va % page) 0 && leb va VA))
 
--- roots disjoint
+-- 5.3: no two roots overlap
 abbrev pub rootsDisjoint : Tables → Bool
-rootsDisjoint t = pairwise (λ a b. apart (t .va) (a .0) (b .0)) (t .roots)
+rootsDisjoint t = pairwise (λ a b. apart (t .fields .va) (a .0) (b .0)) (t .roots)
 
--- a number is a nonzero multiple of the page size
+-- 1.2: a number of whole pages
 abbrev pub whole : ℕ → ℕ → Bool
 whole page n = not (eqb n 0) && eqb (n % page) 0
 
--- roots and ranges aligned, nonzero; addresses end at or below 2^63
+-- 5.3, 5.4: roots and ranges are whole, and no root ends above `END`
 abbrev pub rootsAligned : Tables → Bool
-rootsAligned t = every (λ a. whole (t .page) (a .0) && leb (a .0) (2 ^ 63 - t .va)) (t .roots)
+rootsAligned t = every (λ a. whole (t .fields .page) (a .0) && leb (a .0) (END - t .fields .va)) (t .roots)
 
 abbrev pub rangesAligned : Tables → Bool
-rangesAligned t = every (λ h. whole (t .page) (h .from) && whole (t .page) (h .size)) (ranges t)
+rangesAligned t = every (λ h. whole (t .fields .page) (h .from) && whole (t .fields .page) (h .size)) (ranges t)
 
--- free, live, holes and zombies disjoint
+-- 5.4: no two ranges overlap
 abbrev pub rangesDisjoint : Tables → Bool
 rangesDisjoint t = pairwise (λ h k. eqb (common h k) 0) (ranges t)
 
--- and inside the roots: each has all its addresses in common with them
+-- 5.4: a range has all its addresses in common with the roots
 abbrev pub insideRoots : Tables → Bool
-insideRoots t = every (λ h. eqb (sum (λ a. common h (range (a .0) (t .va))) (t .roots)) (h .size)) (ranges t)
+insideRoots t = every (λ h. eqb (sum (λ a. common h (range (a .0) (t .fields .va))) (t .roots)) (h .size)) (ranges t)
 
--- no two holes touch
+-- 5.4: no two holes touch
 abbrev pub noHolesTouch : Tables → Bool
 noHolesTouch t = pairwise (λ h k. not (eqb (upto h) (k .from)) && not (eqb (upto k) (h .from))) (holesIn t)
 
--- one active entry per page of free and live, none elsewhere
+-- 5.5: the active pages are those of free and live
 abbrev pub pagesMatch : Tables → Bool
-pagesMatch t = same (map (λ g. g .start .0) (t .pages)) (joined (λ h. starts (h .size / t .page) (h .from) (t .page)) (sorted (λ h. h .from) (spans t)))
+pagesMatch t = same (map (λ g. g .start .0) (t .pages)) (joined (λ h. starts (h .size / t .fields .page) (h .from) (t .fields .page)) (sorted (λ h. h .from) (spans t)))
 
--- handles distinct
+-- 5.5: no handle twice
 abbrev pub handlesDistinct : Tables → Bool
 handlesDistinct t = distinct (map (λ g. g .handle .0) (t .pages))
 
--- free ids distinct
+-- 5.6: no free id twice
 abbrev pub freeIdsDistinct : Tables → Bool
 freeIdsDistinct t = distinct (map (λ r. r .id .0) (t .free))
 
--- all ids below the counter
+-- 5.6: the counter is above every id
 abbrev pub idsBelow : Tables → Bool
-idsBelow t = every (λ r. ltb (r .id .0) (t .counter)) (t .free) && every (λ z. ltb (z .id .0) (t .counter)) (t .zombies)
+idsBelow t = every (λ r. ltb (r .id .0) (t .fields .counter)) (t .free) && every (λ z. ltb (z .id .0) (t .fields .counter)) (t .zombies)
 
--- ceilings kept: 256 active pages; 128 spans (free plus live); 128 zombies; 512 holes plus zombies; 16 roots
+-- 5.1: counts within the ceilings
 unfoldable pub ceilingsKept : Pool → Bool
 ceilingsKept p =
-    leb (p .pages .count) 256
-    && (leb (p .free .count + p .live .count) 128
-    && (leb (p .zombies .count) 128
-    && (leb (p .holes .count + p .zombies .count) 512
-    && leb (p .roots .count) 16)))
+    leb (p .pages .count) PAGES
+    && (leb (p .free .count + p .live .count) SPANS
+    && (leb (p .zombies .count) ZOMBIES
+    && (leb (p .holes .count + p .zombies .count) HOLES
+    && leb (p .roots .count) ROOTS)))
 
 unfoldable pub sound : Tables → Bool
 sound t =
-    allowed (t .page) (t .va)
+    allowed (t .fields .page) (t .fields .va)
     && (rootsDisjoint t
     && (rootsAligned t
     && (rangesAligned t
@@ -106,6 +107,6 @@ sound t =
     && (freeIdsDistinct t
     && idsBelow t)))))))))
 
--- A stopped pool needs its counts within the ceilings only.
+-- Of a stopped pool only the counts are tested.
 unfoldable pub wellFormed : Pool → Bool
 wellFormed p = ceilingsKept p && (eqb (p .state) stopped || (eqb (p .state) opened && sound (atEntry p)))

@@ -1,8 +1,8 @@
--- An input in chunks says what it says as a whole, wherever it is cut: the part of a line that is left says what the rest of the line needs. Assumes nothing.
+-- An input in chunks says what it says as a whole, wherever it is cut: the part of a line that is left says what the rest of the line needs.
 use mathlib.Core.Path.{_≡_, refl, sym, ap, _∙_}
 use mathlib.Core.List.{List, [], _∷_, _++_, map}
 use mathlib.Core.Bool.{false, cond, _&&_}
-use Prim.Native.Nat.{ℕ, _+_, _-_, _*_, _^_, _≤_}
+use Prim.Native.Nat.{ℕ, _+_, _-_, _*_, _%_, _^_, _≤_}
 use native.Mathlib.Omega.{arith}
 use borrow.Author.Tests.{ne-eqb, leb-true}
 use lib.Dec.{ltb, leb, eqb}
@@ -10,7 +10,7 @@ use Rattle.lists.specs.Walks.{joined}
 use Rattle.lists.proofs.Tests.{both}
 use Rattle.trace.specs.Reads.{onto, isDigit, reading}
 use Rattle.trace.specs.Lines.{rows, linesOf}
-use Rattle.trace.specs.Machine.{isLetter, kindOf, parted, afterLetters, afterTab, afterDigits, fresh, isFresh, after, run, lineAt, readLine}
+use Rattle.trace.specs.Machine.{whole, isLetter, kindOf, parted, afterLetters, afterTab, afterDigits, fresh, isFresh, after, run, lineAt, readLine}
 use Rattle.trace.specs.Chunks.{ending, linesFrom, endedIn, leftOf, chunked}
 use Rattle.trace.specs.declared.Reading.{Reading}
 use Rattle.trace.specs.declared.Before.{Before}
@@ -21,17 +21,17 @@ use Rattle.trace.proofs.Cases.{by-test, on}
 use Rattle.trace.proofs.Fields.{reading-is}
 
 -- a line of which a byte was read has begun
-begun-letters : (w b : ℕ) → isFresh (afterLetters w b) ≡ false
+begun-letters : (high low b : ℕ) → isFresh (afterLetters high low b) ≡ false
 unfolding afterLetters
-begun-letters w b =
+begun-letters high low b =
     by-test (λ p. isFresh p ≡ false) (eqb b 9)
-    (λ t. by-test (λ p. isFresh p ≡ false) (eqb (kindOf w) 0) (λ u. refl) (λ u. refl))
+    (λ t. by-test (λ p. isFresh p ≡ false) (eqb (kindOf (whole high low)) 0) (λ u. refl) (λ u. refl))
     (λ t.
-    by-test (λ p. isFresh p ≡ false) (isLetter b && ltb w (2 ^ 56))
+    by-test (λ p. isFresh p ≡ false) (isLetter b && ltb high (2 ^ 56))
     (λ u.
-    let is = both (leb 97 b) (leb b 122) (both (isLetter b) (ltb w (2 ^ 56)) u .0) in
-    let low : 97 ≤ b = leb-true 97 b (is .0) in
-    ne-eqb (w * 256 + b) 0 (omega arith))
+    let is = both (leb 97 b) (leb b 122) (both (isLetter b) (ltb high (2 ^ 56)) u .0) in
+    let above : 97 ≤ b = leb-true 97 b (is .0) in
+    ne-eqb (low % 2 ^ 56 * 256 + b) 0 (omega arith))
     (λ u. refl))
 
 begun-parted : (f : Before) (n : ℕ) → isFresh (parted f n) ≡ false
@@ -41,7 +41,7 @@ begun-parted (Second k a b) n = refl
 
 begun-line : (p : Partial) (b : ℕ) → isFresh (after p b) ≡ false
 unfolding afterTab afterDigits
-begun-line (Letters w) b = begun-letters w b
+begun-line (Letters high low) b = begun-letters high low b
 begun-line (Tab f) b = by-test (λ p. isFresh p ≡ false) (isDigit b) (λ t. refl) (λ t. refl)
 begun-line (Digits f n) b =
     by-test (λ p. isFresh p ≡ false) (eqb b 9) (λ t. begun-parted f n)

@@ -1,4 +1,4 @@
--- Decimals grow by one digit at their end, and a number below 2^64 has at most twenty. Assumes nothing.
+-- Decimals grow by one digit at their end, and a number below 2^64 has at most twenty.
 use mathlib.Core.Path.{_≡_, refl, ap, _∙_}
 use mathlib.Core.List.{[], _∷_, _++_}
 use Prim.Native.Nat.{ℕ, zero, suc, _+_, _*_, _/_, _%_, _<_, _≤_, _^_}

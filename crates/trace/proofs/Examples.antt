@@ -1,4 +1,4 @@
--- The definitions on document 01's example and on lines that it refuses, by computation. Assumes nothing.
+-- The definitions on the example of docs/RULES.md 6.6 and on lines that are malformed, by computation.
 use mathlib.Core.Path.{_≡_, refl}
 use mathlib.Core.List.{[], _∷_}
 use Rattle.trace.specs.Form.{ascii, line}

@@ -1,4 +1,4 @@
--- Lines that are printed one after the other are read as they were: no text has a line feed in it, so the rows are the texts. Assumes nothing.
+-- Lines that are printed one after the other are read as they were: no text has a line feed in it, so the rows are the texts.
 use mathlib.Core.Path.{_≡_, refl, ap, _∙_}
 use mathlib.Core.Bool.{false, _||_}
 use mathlib.Core.List.{List, [], _∷_, _++_, map, append-assoc}

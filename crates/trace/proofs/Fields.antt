@@ -1,24 +1,25 @@
--- Reading by fields is reading byte by byte: the fields of a text are its word and decimals, and a number's form is that of a decimal. Assumes nothing.
+-- Reading by fields is reading byte by byte: the fields of a text are its word and decimals, and a number's form is that of a decimal.
 use mathlib.Core.Path.{_≡_, refl, sym, ap, _∙_}
 use mathlib.Core.Bool.{true, false, _&&_, _||_}
 use mathlib.Core.List.{List, [], _∷_, _++_, append-nil}
-use Prim.Native.Nat.{ℕ, _<_, _≤_}
+use Prim.Native.Nat.{ℕ, _-_, _<_, _≤_}
 use native.Mathlib.Omega.{arith}
 use borrow.Author.Tests.{lt-ltb, ne-eqb, eqb-true, ltb-true}
 use lib.Dec.{ltb, eqb}
+use lib.ListN.{getD}
 use Rattle.lists.specs.Tests.{All, same}
 use Rattle.lists.proofs.Tests.{both, neither, all-implies}
 use Rattle.lists.proofs.Every.{every-all}
 use Rattle.lists.proofs.Pairs.{same-is}
-use Rattle.trace.specs.Form.{words, word, decimal, row, textOf, line, Proper, ReadAs}
+use Rattle.trace.specs.Form.{words, word, lastKind, decimal, row, textOf, line, Proper, ReadAs}
 use Rattle.trace.specs.Reads.{onto, fields, kind, isDigit, value, isNumber, ofFields, reading}
 use Rattle.trace.specs.Machine.{readLine}
 use Rattle.trace.specs.declared.Line.{Line}
 use Rattle.trace.specs.declared.Reading.{Reading}
 use Rattle.trace.specs.declared.Reading.the-variants.{Good, Malformed}
-use Rattle.trace.proofs.Cases.{by-test, of-each}
-use Rattle.trace.proofs.Counted.{found, counted-within}
-use Rattle.trace.proofs.Words.{word-plain}
+use Rattle.trace.proofs.Cases.{by-test}
+use Rattle.trace.proofs.Counted.{counted-within, counted-passes}
+use Rattle.trace.proofs.Words.{each-kind, word-from-one, word-plain}
 use Rattle.trace.proofs.Numbers.{is-digit, decimal-digits, value-decimal, number-form, form-number}
 use Rattle.trace.proofs.Meaning.{only, never}
 
@@ -82,25 +83,19 @@ fields-row w a b c h =
       fields-last (decimal c) (decimal-no-tab c),
     )
 
-pub kind-word : (k : ℕ) → k ≤ 16 → kind (word k) ≡ k
+pub kind-word : (k : ℕ) → k ≤ lastKind → kind (word k) ≡ k
 unfolding kind word
-kind-word k h =
-    of-each (λ n. kind (word n) ≡ n) 0 17 k
-    (refl, (refl, (refl, (refl, (refl, (refl, (refl, (refl, (refl, (refl, (refl, (refl, (refl, (refl, (refl, (refl, (refl, tt)))))))))))))))))
-    (omega arith) (omega arith)
+kind-word k h = eqb-true (kind (word k)) k (each-kind (λ n. eqb (kind (word n)) n) refl k h)
 
-word-kind : (w : List ℕ) → (kind w ≡ 0 → ⊥) → w ≡ word (kind w)
-unfolding kind word
-word-kind w h =
-    let f =
-    found (λ k x. x ≡ word k) (same w) 1 words
-    (refl, (refl, (refl, (refl, (refl, (refl, (refl, (refl, (refl, (refl, (refl, (refl, (refl, (refl, (refl, (refl, tt))))))))))))))))
-    h in
-    same-is w (f .one) (f .passes) ∙ f .holds
-
-kind-within : (w : List ℕ) → (kind w ≡ 0 → ⊥) → (1 ≤ kind w) × (kind w ≤ 16)
+kind-within : (w : List ℕ) → (kind w ≡ 0 → ⊥) → (1 ≤ kind w) × (kind w ≤ lastKind)
 unfolding kind
 kind-within w h = let r = counted-within (same w) 1 words h in omega arith
+
+word-kind : (w : List ℕ) → (kind w ≡ 0 → ⊥) → w ≡ word (kind w)
+unfolding kind
+word-kind w h =
+    same-is w (getD words (kind w - 1) []) (counted-passes (same w) 1 words [] h)
+    ∙ sym (word-from-one (kind w) (kind-within w h .0))
 
 -- the text of a proper line is read as that line
 reads-text : (l : Line) → Proper l → reading (textOf l) ≡ Good l
@@ -108,7 +103,7 @@ unfolding reading textOf
 reads-text l p =
     rw (fields-row (word (l .kind)) (l .first) (l .second) (l .third) (word-no-tab (l .kind)))
     (simp (
-      kind-word (l .kind) (p .to-sixteen),
+      kind-word (l .kind) (p .to-last),
       lt-ltb 0 (l .kind) (omega (arith, p .from-one)),
       number-form (l .first) (p .one),
       number-form (l .second) (p .two),
@@ -151,7 +146,7 @@ fields-mean (w ∷ a ∷ b ∷ c ∷ []) l e =
         rw (← is) (
           record {
             from-one = kind-within w some .0;
-            to-sixteen = kind-within w some .1;
+            to-last = kind-within w some .1;
             one = na .0;
             two = nb .0;
             three = nc .0;

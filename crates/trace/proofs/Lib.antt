@@ -3,6 +3,7 @@ pub mod Counted
 pub mod Decimal
 pub mod Put
 pub mod Words
+pub mod Codes
 pub mod Printed
 pub mod Numbers
 pub mod Meaning

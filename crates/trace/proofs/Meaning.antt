@@ -1,4 +1,4 @@
--- What is read as a line is its text: each part of a line that the machine holds stands for the bytes that were read. Assumes nothing.
+-- What is read as a line is its text: each part of a line that the machine holds stands for the bytes that were read.
 use mathlib.Core.Path.{_≡_, refl, sym, ap, _∙_}
 use mathlib.Core.List.{List, [], _∷_, _++_, append-assoc, append-nil}
 use mathlib.Core.Bool.{cond, _&&_}
@@ -6,11 +6,14 @@ use Prim.Native.Nat.{ℕ, zero, suc, _+_, _-_, _*_, _/_, _%_, _<_, _≤_, _^_}
 use native.Mathlib.Omega.{arith}
 use borrow.Author.Tests.{eq-eqb, ne-eqb, eqb-true, eqb-false, leb-true, ltb-true}
 use lib.Dec.{ltb, leb, eqb}
+use Rattle.lists.specs.Tests.{same}
 use Rattle.lists.proofs.Tests.{both}
-use Rattle.trace.specs.Form.{word, decimal, row, textOf, Proper, ReadAs, line}
+use Rattle.lists.proofs.Pairs.{same-is}
+use Rattle.trace.specs.Form.{word, lastKind, decimal, row, textOf, Proper, ReadAs, line}
 use Rattle.trace.specs.Reads.{isDigit}
 use Rattle.trace.specs.Machine.{
-  codes,
+  packed,
+  whole,
   kindOf,
   isLetter,
   afterLetters,
@@ -31,7 +34,8 @@ use Rattle.trace.specs.declared.Before.the-variants.{Kind, First, Second
 use Rattle.trace.specs.declared.Partial.{Partial}
 use Rattle.trace.specs.declared.Partial.the-variants.{Letters, Tab, Digits, Broken}
 use Rattle.trace.proofs.Cases.{by-test}
-use Rattle.trace.proofs.Counted.{found, counted-within}
+use Rattle.trace.proofs.Words.{each-word}
+use Rattle.trace.proofs.Codes.{kindOf-within, kindOf-code}
 use Rattle.trace.proofs.Decimal.{one-digit, one-more}
 use Rattle.trace.proofs.Numbers.{is-digit}
 use Rattle.trace.proofs.Printed.{read-printed}
@@ -61,18 +65,11 @@ letter : (w b : ℕ) → 0 < b → b < 256 → letters (w * 256 + b) ≡ letters
 unfolding letters
 letter w b h g = letter-in (w * 256 + b) w b h g (omega arith)
 
-kind-spelled : (w : ℕ) → (kindOf w ≡ 0 → ⊥) → letters w ≡ word (kindOf w)
-unfolding word kindOf letters
-kind-spelled w h =
-    let f =
-    found (λ k c. letters c ≡ word k) (eqb w) 1 codes
-    (refl, (refl, (refl, (refl, (refl, (refl, (refl, (refl, (refl, (refl, (refl, (refl, (refl, (refl, (refl, (refl, tt))))))))))))))))
-    h in
-    ap letters (eqb-true w (f .one) (f .passes)) ∙ f .holds
-
-kind-within : (w : ℕ) → (kindOf w ≡ 0 → ⊥) → (1 ≤ kindOf w) × (kindOf w ≤ 16)
-unfolding kindOf
-kind-within w h = let r = counted-within (eqb w) 1 codes h in omega arith
+kind-spelled : (n : ℕ) → (kindOf n ≡ 0 → ⊥) → letters n ≡ word (kindOf n)
+unfolding letters
+kind-spelled n h =
+    let w = word (kindOf n) in
+    ap letters (kindOf-code n h) ∙ same-is (letters (packed 0 w)) w (each-word (λ x. same (letters (packed 0 x)) x) refl (kindOf n))
 
 -- what a part of a line says of the bytes that were read
 abbrev textBefore : Before → List ℕ
@@ -81,33 +78,36 @@ textBefore (First k a) = word k ++ (9 ∷ (decimal a ++ (9 ∷ [])))
 textBefore (Second k a b) = word k ++ (9 ∷ (decimal a ++ (9 ∷ (decimal b ++ (9 ∷ [])))))
 
 abbrev Within : Before → Type 0
-Within (Kind k) = (1 ≤ k) × (k ≤ 16)
-Within (First k a) = ((1 ≤ k) × (k ≤ 16)) × (a < 2 ^ 64)
-Within (Second k a b) = ((1 ≤ k) × (k ≤ 16)) × ((a < 2 ^ 64) × (b < 2 ^ 64))
+Within (Kind k) = (1 ≤ k) × (k ≤ lastKind)
+Within (First k a) = ((1 ≤ k) × (k ≤ lastKind)) × (a < 2 ^ 64)
+Within (Second k a b) = ((1 ≤ k) × (k ≤ lastKind)) × ((a < 2 ^ 64) × (b < 2 ^ 64))
 
 abbrev Means : Partial → List ℕ → Type 0
-Means (Letters w) l = l ≡ letters w
+Means (Letters high low) l = l ≡ letters (whole high low)
 Means (Tab f) l = Within f × (l ≡ textBefore f)
 Means (Digits f n) l = (Within f × (n < 2 ^ 64)) × (l ≡ textBefore f ++ decimal n)
 Means Broken l = Unit {0}
 
-letters-means : (w b : ℕ) (l : List ℕ) → l ≡ letters w → Means (afterLetters w b) (l ++ (b ∷ []))
+letters-means : (high low b : ℕ) (l : List ℕ) → l ≡ letters (whole high low) → Means (afterLetters high low b) (l ++ (b ∷ []))
 unfolding afterLetters
-letters-means w b l m =
+letters-means high low b l m =
     by-test (λ p. Means p (l ++ (b ∷ []))) (eqb b 9)
     (λ t.
     by-test (λ p. Means p (l ++ (b ∷ []))) (eqb (kindOf w) 0)
     (λ u. tt)
-    (λ u. (kind-within w (eqb-false (kindOf w) 0 u), rw (m, kind-spelled w (eqb-false (kindOf w) 0 u), eqb-true b 9 t))))
+    (λ u. (kindOf-within w (eqb-false (kindOf w) 0 u), rw (m, kind-spelled w (eqb-false (kindOf w) 0 u), eqb-true b 9 t))))
     (λ t.
-    by-test (λ p. Means p (l ++ (b ∷ []))) (isLetter b && ltb w (2 ^ 56))
+    by-test (λ p. Means p (l ++ (b ∷ []))) (isLetter b && ltb high (2 ^ 56))
     (λ u.
-    let low = both (isLetter b) (ltb w (2 ^ 56)) u in
-    let is = both (leb 97 b) (leb b 122) (low .0) in
+    let is = both (leb 97 b) (leb b 122) (both (isLetter b) (ltb high (2 ^ 56)) u .0) in
     let above : 97 ≤ b = leb-true 97 b (is .0) in
     let below : b ≤ 122 = leb-true b 122 (is .1) in
-    rw m (sym (letter w b (omega arith) (omega arith))))
+    let e : whole (high * 256 + low / 2 ^ 56) (low % 2 ^ 56 * 256 + b) ≡ w * 256 + b = omega arith in
+    rw (m, e) (sym (letter w b (omega arith) (omega arith))))
     (λ u. tt))
+  where
+    w : ℕ
+    w = whole high low
 
 tab-means : (f : Before) (b : ℕ) (l : List ℕ) → Means (Tab f) l → Means (afterTab f b) (l ++ (b ∷ []))
 unfolding afterTab
@@ -144,7 +144,7 @@ digits-means f n b l m =
     (λ u. tt))
 
 means : (p : Partial) (b : ℕ) (l : List ℕ) → Means p l → Means (after p b) (l ++ (b ∷ []))
-means (Letters w) b l m = letters-means w b l m
+means (Letters high low) b l m = letters-means high low b l m
 means (Tab f) b l m = tab-means f b l m
 means (Digits f n) b l m = digits-means f n b l m
 means Broken b l m = tt
@@ -158,7 +158,7 @@ never e = absurd (let z : _≡_ {A = ℕ} 0 1 = cc in omega arith)
 
 line-means : (p : Partial) (bytes : List ℕ) (l : Line) → Means p bytes → lineAt p ≡ Good l → Proper l × (bytes ≡ textOf l)
 unfolding row textOf
-line-means (Letters w) bytes l m e = never e
+line-means (Letters high low) bytes l m e = never e
 line-means (Tab f) bytes l m e = never e
 line-means (Digits (Kind k) n) bytes l m e = never e
 line-means (Digits (First k a) n) bytes l m e = never e
@@ -167,7 +167,7 @@ line-means (Digits (Second k a b) n) bytes l m e =
     rw (← same) (
       record {
         from-one = m .0 .0 .0 .0;
-        to-sixteen = m .0 .0 .0 .1;
+        to-last = m .0 .0 .0 .1;
         one = m .0 .0 .1 .0;
         two = m .0 .0 .1 .1;
         three = m .0 .1;

@@ -1,4 +1,4 @@
--- A number has the form that document 01 asks for exactly where it is the decimal of a number below 2^64. Assumes nothing.
+-- A number has the form of docs/RULES.md 6.3 exactly where it is the decimal of a number below 2^64.
 use mathlib.Core.Path.{_≡_, refl, sym, ap, _∙_}
 use mathlib.Core.Bool.{Bool, true, false, _&&_, not, true≢false}
 use mathlib.Core.List.{List, [], _∷_, _++_, append-assoc, append-nil}

@@ -1,19 +1,21 @@
--- The text of a proper line is read as that line: the word's letters lead to its kind, each decimal to its number. Assumes nothing.
+-- The text of a proper line is read as that line: the word's letters lead to its kind, each decimal to its number.
 use mathlib.Core.Path.{_≡_, refl, sym, ap, _∙_}
+use mathlib.Core.Bool.{Bool, true, false, _||_, false≢true}
 use mathlib.Core.List.{List, [], _∷_, _++_, append-assoc}
 use Prim.Native.Nat.{ℕ, zero, suc, _+_, _-_, _*_, _/_, _%_, _<_, _≤_, _^_}
 use native.Mathlib.Omega.{arith}
-use borrow.Author.Tests.{lt-ltb, le-leb, ne-eqb, ltb-true, ltb-false}
-use lib.Dec.{ltb}
-use Rattle.trace.specs.Form.{word, spell, decimal, row, textOf, Proper}
+use borrow.Author.Tests.{lt-ltb, le-leb, ne-eqb, eqb-true, ltb-true, ltb-false}
+use lib.Dec.{ltb, eqb}
+use Rattle.trace.specs.Form.{word, lastKind, spell, decimal, row, textOf, Proper}
 use Rattle.trace.specs.Machine.{kindOf, afterLetters, afterTab, afterDigits, parted, fresh, after, run, lineAt, readLine}
 use Rattle.trace.specs.declared.Line.{Line}
 use Rattle.trace.specs.declared.Reading.the-variants.{Good}
 use Rattle.trace.specs.declared.Before.{Before}
 use Rattle.trace.specs.declared.Before.the-variants.{Kind, First, Second}
 use Rattle.trace.specs.declared.Partial.{Partial}
-use Rattle.trace.specs.declared.Partial.the-variants.{Tab, Digits}
-use Rattle.trace.proofs.Cases.{by-test, of-each}
+use Rattle.trace.specs.declared.Partial.the-variants.{Letters, Tab, Digits, Broken}
+use Rattle.trace.proofs.Cases.{by-test}
+use Rattle.trace.proofs.Words.{each-kind}
 
 run-append : (p : Partial) (l m : List ℕ) → run p (l ++ m) ≡ run (run p l) m
 run-append p [] m = refl
@@ -64,12 +66,28 @@ tab-after : (f : Before) (n : ℕ) → after (Digits f n) 9 ≡ parted f n
 unfolding afterDigits
 tab-after f n = refl
 
-read-word : (k : ℕ) → 1 ≤ k → k ≤ 16 → run fresh (word k ++ (9 ∷ [])) ≡ Tab (Kind k)
+-- a test whether a tab was read behind the word of a kind
+abbrev isBegun : ℕ → Partial → Bool
+isBegun k (Letters high low) = false
+isBegun k (Tab (Kind n)) = eqb n k
+isBegun k (Tab (First n a)) = false
+isBegun k (Tab (Second n a b)) = false
+isBegun k (Digits f n) = false
+isBegun k Broken = false
+
+is-begun : (k : ℕ) (p : Partial) → isBegun k p ≡ true → p ≡ Tab (Kind k)
+is-begun k (Tab (Kind n)) t = ap (λ (x : ℕ). Tab (Kind x)) (eqb-true n k t)
+is-begun k (Letters high low) t = absurd (false≢true t)
+is-begun k (Tab (First n a)) t = absurd (false≢true t)
+is-begun k (Tab (Second n a b)) t = absurd (false≢true t)
+is-begun k (Digits f n) t = absurd (false≢true t)
+is-begun k Broken t = absurd (false≢true t)
+
+read-word : (k : ℕ) → 1 ≤ k → k ≤ lastKind → run fresh (word k ++ (9 ∷ [])) ≡ Tab (Kind k)
 unfolding word afterLetters kindOf
 read-word k lo hi =
-    of-each (λ n. run fresh (word n ++ (9 ∷ [])) ≡ Tab (Kind n)) 1 16 k
-    (refl, (refl, (refl, (refl, (refl, (refl, (refl, (refl, (refl, (refl, (refl, (refl, (refl, (refl, (refl, (refl, tt))))))))))))))))
-    lo (omega arith)
+    let t = each-kind (λ n. eqb n 0 || isBegun n (run fresh (word n ++ (9 ∷ [])))) refl k hi in
+    is-begun k (run fresh (word k ++ (9 ∷ []))) (rw (ne-eqb k 0 (omega arith)) at t)
 
 pub read-printed : (l : Line) → Proper l → readLine (textOf l) ≡ Good l
 unfolding readLine row textOf
@@ -82,7 +100,7 @@ read-printed l r =
     ap lineAt
     (ap (run fresh) (sym (append-assoc (word k) (9 ∷ []) rest))
     ∙ run-append fresh (word k ++ (9 ∷ [])) rest
-    ∙ ap (λ (p : Partial). run p rest) (read-word k (r .from-one) (r .to-sixteen))
+    ∙ ap (λ (p : Partial). run p rest) (read-word k (r .from-one) (r .to-last))
     ∙ read-number (Kind k) a (9 ∷ (decimal b ++ (9 ∷ decimal c))) (r .one)
     ∙ ap (λ (p : Partial). run p (decimal b ++ (9 ∷ decimal c))) (tab-after (Kind k) a)
     ∙ read-number (First k a) b (9 ∷ decimal c) (r .two)

@@ -1,4 +1,4 @@
--- Bytes put into a buffer, one run after the other: each is a run of `sets`, and these join. Assumes nothing.
+-- Bytes put into a buffer, one run after the other: each is a run of `sets`, and these join.
 use mathlib.Core.Path.{_≡_, sym, ap, _∙_}
 use mathlib.Core.List.{List, [], _∷_, _++_, append-assoc}
 use Prim.Native.Nat.{ℕ, suc, _+_, _≤_, _<_}

@@ -1,4 +1,4 @@
--- One line of a chunk at a time: what `reached` says of the input, whatever may follow the chunk. Assumes nothing.
+-- One line of a chunk at a time: what `reached` says of the input, whatever may follow the chunk.
 use mathlib.Core.Path.{_≡_, refl, sym, ap, _∙_}
 use mathlib.Core.Bool.{true, false, true≢false, false≢true}
 use mathlib.Core.List.{List, [], _∷_, _++_}

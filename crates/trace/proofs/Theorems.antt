@@ -1,4 +1,4 @@
--- What is printed is read as it was, and what is read is printed as it was. Assumes nothing.
+-- What is printed is read as it was, and what is read is printed as it was.
 use mathlib.Core.Path.{_≡_, refl, sym, _∙_}
 use mathlib.Core.List.{List}
 use Prim.Native.Nat.{ℕ}

@@ -1,4 +1,4 @@
--- Document 01, "Driver calls, log and trace", text: one record a line, the word and three decimals parted by tabs.
+-- docs/RULES.md 6.3: a line's text.
 use mathlib.Core.Path.{_≡_, refl}
 use mathlib.Core.Bool.{cond}
 use mathlib.Core.List.{List, [], _∷_, _++_}
@@ -6,7 +6,7 @@ use Prim.Native.Char.{code}
 use Prim.Native.Nat.{ℕ, zero, suc, _+_, _/_, _%_, _≤_, _<_, _^_}
 use Prim.Native.String.{String, [] as empty, _∷_ as _then_}
 use lib.Dec.{ltb}
-use lib.ListN.{getD}
+use lib.ListN.{length, getD}
 use Rattle.trace.specs.declared.Line.{Line}
 use Rattle.trace.specs.declared.Reading.{Reading}
 use Rattle.trace.specs.declared.Reading.the-variants.{Good, Malformed}
@@ -41,6 +41,9 @@ words =
 unfoldable pub word : ℕ → List ℕ
 word kind = getD ([] ∷ words) kind []
 
+abbrev pub lastKind : ℕ
+lastKind = length words
+
 -- the decimal digits of `n`, at most `k` and one more of them
 abbrev pub spell : ℕ → ℕ → List ℕ
 spell zero n = (48 + n) ∷ []
@@ -66,18 +69,18 @@ textOf l = row (word (l .kind)) (l .first) (l .second) (l .third)
 unfoldable pub printed : Line → List ℕ
 printed l = text (word (l .kind)) (l .first) (l .second) (l .third)
 
--- Line N is malformed, prints `bad`, N, 0, 0.
+-- docs/RULES.md 7.5: what replay prints at a malformed line,
 unfoldable pub badLine : ℕ → List ℕ
 badLine n = text (ascii "bad") n 0 0
 
--- Replay prints `short`, the call's line number, 0, 0 in the place of a call answered 17.
+-- and in the place of a call answered 17.
 unfoldable pub shortLine : ℕ → List ℕ
 shortLine n = text (ascii "short") n 0 0
 
 -- a line that a trace may hold
 pub record Proper (l : Line) : Type 0 where
   pub from-one : 1 ≤ l .kind
-  pub to-sixteen : l .kind ≤ 16
+  pub to-last : l .kind ≤ lastKind
   pub one : l .first < 2 ^ 64
   pub two : l .second < 2 ^ 64
   pub three : l .third < 2 ^ 64

@@ -1,4 +1,5 @@
 pub mod Form
+pub mod Bounds
 pub mod Kinds
 pub mod Reads
 pub mod Lines

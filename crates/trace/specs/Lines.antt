@@ -1,4 +1,4 @@
--- An input and its lines. An empty input has none; a last line without its line feed counts.
+-- docs/RULES.md 6.5: an input and its lines. An empty input has none; a last line without its line feed counts.
 use mathlib.Core.Bool.{cond}
 use mathlib.Core.List.{List, [], _∷_, map}
 use Prim.Native.Nat.{ℕ}

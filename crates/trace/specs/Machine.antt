@@ -1,7 +1,7 @@
 -- A line read byte by byte, in the code's words. What it comes to is said by Form and Reads alone: proofs/Meaning.antt, proofs/Fields.antt.
 use mathlib.Core.Bool.{Bool, false, cond, _&&_}
 use mathlib.Core.List.{List, [], _∷_, map}
-use Prim.Native.Nat.{ℕ, _+_, _-_, _*_, _^_}
+use Prim.Native.Nat.{ℕ, _+_, _-_, _*_, _/_, _%_, _^_}
 use lib.Dec.{ltb, leb, eqb}
 use Rattle.trace.specs.Form.{words, line}
 use Rattle.trace.specs.Reads.{counted, isDigit}
@@ -17,6 +17,10 @@ abbrev pub packed : ℕ → List ℕ → ℕ
 packed w [] = w
 packed w (b ∷ l) = packed (w * 256 + b) l
 
+-- such a number, from its last eight digits and those before them
+abbrev pub whole : ℕ → ℕ → ℕ
+whole high low = high * 2 ^ 64 + low
+
 abbrev pub codes : List ℕ
 codes = map (packed 0) words
 
@@ -30,10 +34,11 @@ isLetter b = leb 97 b && leb b 122
 abbrev pub begun : ℕ → Partial
 begun k = cond (eqb k 0) Broken (Tab (Kind k))
 
-unfoldable pub afterLetters : ℕ → ℕ → Partial
-afterLetters w b =
-    cond (eqb b 9) (begun (kindOf w))
-    (cond (isLetter b && ltb w (2 ^ 56)) (Letters (w * 256 + b)) Broken)
+-- one letter more: the first of the last eight digits goes over to those before them
+unfoldable pub afterLetters : ℕ → ℕ → ℕ → Partial
+afterLetters high low b =
+    cond (eqb b 9) (begun (kindOf (whole high low)))
+    (cond (isLetter b && ltb high (2 ^ 56)) (Letters (high * 256 + low / 2 ^ 56) (low % 2 ^ 56 * 256 + b)) Broken)
 
 -- a tab after a number
 abbrev pub parted : Before → ℕ → Partial
@@ -53,11 +58,11 @@ afterDigits f n b = cond (eqb b 9) (parted f n) (cond (isDigit b) (more f n (b -
 
 -- before the first byte
 abbrev pub fresh : Partial
-fresh = Letters 0
+fresh = Letters 0 0
 
 -- one byte more
 abbrev pub after : Partial → ℕ → Partial
-after (Letters w) b = afterLetters w b
+after (Letters high low) b = afterLetters high low b
 after (Tab f) b = afterTab f b
 after (Digits f n) b = afterDigits f n b
 after Broken b = Broken
@@ -73,14 +78,14 @@ full (First k a) n = Malformed
 full (Second k a b) n = Good (line k a b n)
 
 abbrev pub lineAt : Partial → Reading
-lineAt (Letters w) = Malformed
+lineAt (Letters high low) = Malformed
 lineAt (Tab f) = Malformed
 lineAt (Digits f n) = full f n
 lineAt Broken = Malformed
 
 -- no byte of a line is read
 abbrev pub isFresh : Partial → Bool
-isFresh (Letters w) = eqb w 0
+isFresh (Letters high low) = eqb low 0
 isFresh (Tab f) = false
 isFresh (Digits f n) = false
 isFresh Broken = false

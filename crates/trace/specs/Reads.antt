@@ -1,4 +1,4 @@
--- Document 01, "Driver calls, log and trace": a line is malformed if its form or word is none of these, a number is above 2^64 - 1 or has a needless leading zero.
+-- docs/RULES.md 6.4: what a line says, or that it is malformed.
 use mathlib.Core.Bool.{Bool, true, false, cond, _&&_, not}
 use mathlib.Core.List.{List, [], _∷_}
 use Prim.Native.Nat.{ℕ, _+_, _-_, _*_, _^_}

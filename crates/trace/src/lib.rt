@@ -3,9 +3,10 @@ ghost use mathlib.Core.Path.{_≡_};
 ghost use mathlib.Core.List.{_∷_, []};
 ghost use Prim.Native.Nat.{_+_, _≤_, _<_};
 ghost use lib.ListN.{length, drop};
-ghost use Rattle.trace.specs.Form.{word, decimal, text, printed, badLine, shortLine, ReadAs};
+ghost use Rattle.trace.specs.Form.{word, lastKind, decimal, text, printed, badLine, shortLine, ReadAs};
+ghost use Rattle.trace.specs.Bounds.{longestField, longestWith, longestLine};
 ghost use Rattle.trace.specs.Reads.{reading};
-ghost use Rattle.trace.specs.Machine.{kindOf, afterLetters, afterTab, afterDigits, parted, after, lineAt, isFresh, fresh as nothingRead};
+ghost use Rattle.trace.specs.Machine.{whole, kindOf, afterLetters, afterTab, afterDigits, parted, after, lineAt, isFresh, fresh as nothingRead};
 ghost use Rattle.trace.specs.Chunks.{reached};
 ghost use Rattle.trace.specs.Put.{Put};
 
@@ -31,9 +32,10 @@ pub enum Before {
     Second(u64, u64, u64),
 }
 
-// What is known of a line of which a part is read: the letters of its word so far, as a number in base 256; a tab; the digits of a number so far.
+// What is known of a line of which a part is read: the letters of its word so far, as a number in base 256 whose last eight digits stand apart; a tab; the digits
+// of a number so far.
 pub enum Partial {
-    Letters(u64),
+    Letters(u64, u64),
     Tab(Before),
     Digits(Before, u64),
     Broken,
@@ -48,6 +50,9 @@ pub struct Reach {
 
 const TAB: u8 = b'\t';
 
+// The place of the eighth digit in base 256.
+const EIGHTH: u64 = 0x100_0000_0000_0000;
+
 fn wide(b: u8) -> u64
     ensures { λ r. ⌜ r ≡ b ⌝ }
 {
@@ -55,38 +60,39 @@ fn wide(b: u8) -> u64
 }
 
 // The number of the word whose letters these are; 0 where it is none of the words.
-fn kind_of(letters: u64) -> u64
-    ensures { λ r. ⌜ r ≡ kindOf letters ⌝ }
+fn kind_of(high: u64, low: u64) -> u64
+    ensures { λ r. ⌜ r ≡ kindOf (whole high low) ⌝ }
 {
-    match letters {
-        // reserve, create, map, access, unmap, release
-        0x72657365727665 => 1,
-        0x637265617465 => 2,
-        0x6d6170 => 3,
-        0x616363657373 => 4,
-        0x756e6d6170 => 5,
-        0x72656c65617365 => 6,
-        // record, asked, wait, sync, giveback
-        0x7265636f7264 => 7,
-        0x61736b6564 => 8,
-        0x77616974 => 9,
-        0x73796e63 => 10,
-        0x676976656261636b => 11,
-        // open, malloc, free, close, result
-        0x6f70656e => Line::OPEN,
-        0x6d616c6c6f63 => Line::MALLOC,
-        0x66726565 => Line::FREE,
-        0x636c6f7365 => Line::CLOSE,
-        0x726573756c74 => Line::RESULT,
+    match high {
+        // the words of at most eight letters
+        0 => match low {
+            0x72657365727665 => Line::RESERVE,
+            0x637265617465 => Line::CREATE,
+            0x6d6170 => Line::MAP,
+            0x616363657373 => Line::ACCESS,
+            0x756e6d6170 => Line::UNMAP,
+            0x72656c65617365 => Line::RELEASE,
+            0x7265636f7264 => Line::RECORD,
+            0x61736b6564 => Line::ASKED,
+            0x77616974 => Line::WAIT,
+            0x73796e63 => Line::SYNC,
+            0x676976656261636b => Line::GIVEBACK,
+            0x6f70656e => Line::OPEN,
+            0x6d616c6c6f63 => Line::MALLOC,
+            0x66726565 => Line::FREE,
+            0x636c6f7365 => Line::CLOSE,
+            0x726573756c74 => Line::RESULT,
+            _ => 0,
+        },
         _ => 0,
     }
 }
 
-fn after_letters(letters: u64, b: u8) -> Partial
-    ensures { λ r. ⌜ r ≡ afterLetters letters b ⌝ }
+fn after_letters(high: u64, low: u64, b: u8) -> Partial
+    ensures { λ r. ⌜ r ≡ afterLetters high low b ⌝ }
 {
     if b == TAB {
-        let kind = kind_of(letters);
+        let kind = kind_of(high, low);
         if kind == 0 {
             return Partial::Broken;
         }
@@ -98,9 +104,9 @@ fn after_letters(letters: u64, b: u8) -> Partial
     if b'z' < b {
         return Partial::Broken;
     }
-    // no word has more than eight letters
-    if letters < 0x100_0000_0000_0000 {
-        return Partial::Letters(letters * 256 + wide(b));
+    // no word has more than sixteen letters
+    if high < EIGHTH {
+        return Partial::Letters(high * 256 + low / EIGHTH, low % EIGHTH * 256 + wide(b));
     }
     Partial::Broken
 }
@@ -155,7 +161,7 @@ impl Partial {
     pub fn fresh() -> Self
         ensures { λ r. ⌜ r ≡ nothingRead ⌝ }
     {
-        Partial::Letters(0)
+        Partial::Letters(0, 0)
     }
 
     // One byte more, which is no line feed.
@@ -163,7 +169,7 @@ impl Partial {
         ensures { λ r. ⌜ r ≡ after self b ⌝ }
     {
         match self {
-            Partial::Letters(letters) => after_letters(letters, b),
+            Partial::Letters(high, low) => after_letters(high, low, b),
             Partial::Tab(before) => after_tab(before, b),
             Partial::Digits(before, n) => after_digits(before, n, b),
             Partial::Broken => Partial::Broken,
@@ -175,7 +181,7 @@ impl Partial {
         ensures { λ r. ⌜ r ≡ lineAt self ⌝ }
     {
         match self {
-            Partial::Letters(_) => Reading::Malformed,
+            Partial::Letters(_, _) => Reading::Malformed,
             Partial::Tab(_) => Reading::Malformed,
             Partial::Digits(before, n) => match before {
                 Before::Kind(_) => Reading::Malformed,
@@ -196,7 +202,7 @@ impl Partial {
         ensures { λ r. ⌜ r ≡ isFresh self ⌝ }
     {
         match self {
-            Partial::Letters(letters) => letters == 0,
+            Partial::Letters(_, low) => low == 0,
             Partial::Tab(_) => false,
             Partial::Digits(_, _) => false,
             Partial::Broken => false,
@@ -270,7 +276,7 @@ fn put_decimal(out: &mut [u8], at: usize, n: u64) -> usize
 
 // A tab and a number.
 pub fn put_field(out: &mut [u8], at: usize, n: u64) -> usize
-    requires { ⌜ at + 21 ≤ length (now out) ⌝ }
+    requires { ⌜ at + longestField ≤ length (now out) ⌝ }
     ensures { λ r. ⌜ Put (now (out .entry)) (now (out .exit)) at r (9 ∷ decimal n) ⌝ }
 {
     let next = put_byte(out, at, TAB);
@@ -286,8 +292,9 @@ pub fn put_text(
     second: u64,
     third: u64,
 ) -> usize
-    requires { ⌜ at + (length (now letters) + 64) ≤ length (now out) ⌝ }
-    ensures { λ r. ⌜ Put (now (out .entry)) (now (out .exit)) at r (text (now (letters .entry)) first second third) ⌝ }
+    requires { ⌜ at + longestWith (length (now letters)) ≤ length (now out) ⌝ }
+    ensures { λ r. ⌜ Put (now (out .entry)) (now (out .exit)) at r
+        (text (now (letters .entry)) first second third) ⌝ }
 {
     let p = put_bytes(out, at, letters);
     let q = put_field(out, p, first);
@@ -298,7 +305,7 @@ pub fn put_text(
 
 // The line that says where a malformed line stands.
 pub fn put_bad(out: &mut [u8], at: usize, line: u64) -> usize
-    requires { ⌜ at + 72 ≤ length (now out) ⌝ }
+    requires { ⌜ at + longestLine ≤ length (now out) ⌝ }
     ensures { λ r. ⌜ Put (now (out .entry)) (now (out .exit)) at r (badLine line) ⌝ }
 {
     put_text(out, at, b"bad", line, 0, 0)
@@ -306,30 +313,72 @@ pub fn put_bad(out: &mut [u8], at: usize, line: u64) -> usize
 
 // The line that stands in the place of a call whose answers ran out.
 pub fn put_short(out: &mut [u8], at: usize, line: u64) -> usize
-    requires { ⌜ at + 72 ≤ length (now out) ⌝ }
+    requires { ⌜ at + longestLine ≤ length (now out) ⌝ }
     ensures { λ r. ⌜ Put (now (out .entry)) (now (out .exit)) at r (shortLine line) ⌝ }
 {
     put_text(out, at, b"short", line, 0, 0)
 }
 
-// The words, eight bytes for each number from 0 to 16, and how many of these are the word's.
-const WORDS: [u8; 136] =
-    *b"........reserve.create..map.....access..unmap...release.record..asked...wait....sync....givebackopen....malloc..free....close...result..";
+// The words from kind 0, which has none, each in a row of sixteen bytes, and how many of these are its letters.
+const WORDS: [[u8; 16]; ROWS] = [
+    *b"................",
+    *b"reserve.........",
+    *b"create..........",
+    *b"map.............",
+    *b"access..........",
+    *b"unmap...........",
+    *b"release.........",
+    *b"record..........",
+    *b"asked...........",
+    *b"wait............",
+    *b"sync............",
+    *b"giveback........",
+    *b"open............",
+    *b"malloc..........",
+    *b"free............",
+    *b"close...........",
+    *b"result..........",
+];
 
-const SIZES: [usize; 17] = [0, 7, 6, 3, 6, 5, 7, 6, 5, 4, 4, 8, 4, 6, 4, 5, 6];
+const SIZES: [usize; ROWS] = [0, 7, 6, 3, 6, 5, 7, 6, 5, 4, 4, 8, 4, 6, 4, 5, 6];
+
+const ROWS: usize = Line::LAST as usize + 1;
 
 // The row of a kind's word; a number that is no kind has none, as 0.
 fn table_row(kind: u64) -> usize
-    ensures { λ r. ⌜ (r ≤ 16) × (word r ≡ word kind) ⌝ }
+    ensures { λ r. ⌜ (r ≤ lastKind) × (word r ≡ word kind) ⌝ }
 {
-    if 16 < kind {
+    if Line::LAST < kind {
         return 0;
     }
     kind as usize
 }
 
 impl Line {
-    // The kinds that a trace has beside the driver's words.
+    // The driver's words, by the numbers that they have in a log.
+    pub const RESERVE: u64 = 1;
+
+    pub const CREATE: u64 = 2;
+
+    pub const MAP: u64 = 3;
+
+    pub const ACCESS: u64 = 4;
+
+    pub const UNMAP: u64 = 5;
+
+    pub const RELEASE: u64 = 6;
+
+    pub const RECORD: u64 = 7;
+
+    pub const ASKED: u64 = 8;
+
+    pub const WAIT: u64 = 9;
+
+    pub const SYNC: u64 = 10;
+
+    pub const GIVEBACK: u64 = 11;
+
+    // The calls, and what follows each.
     pub const OPEN: u64 = 12;
 
     pub const MALLOC: u64 = 13;
@@ -339,6 +388,8 @@ impl Line {
     pub const CLOSE: u64 = 15;
 
     pub const RESULT: u64 = 16;
+
+    pub const LAST: u64 = Line::RESULT;
 
     // A whole line, without its line feed.
     pub fn read(bytes: &[u8]) -> Reading
@@ -356,20 +407,12 @@ impl Line {
 
     // The line with its line feed, from a place of the buffer on; the place after it.
     pub fn put(self, out: &mut [u8], at: usize) -> usize
-        requires { ⌜ at + 72 ≤ length (now out) ⌝ }
+        requires { ⌜ at + longestLine ≤ length (now out) ⌝ }
         ensures { λ r. ⌜ Put (now (out .entry)) (now (out .exit)) at r (printed self) ⌝ }
     {
         let k = table_row(self.kind);
-        let words = WORDS;
-        let from = 8 * k;
-        let to = from + SIZES[k];
-        put_text(
-            out,
-            at,
-            &words[from..to],
-            self.first,
-            self.second,
-            self.third,
-        )
+        let row = WORDS[k];
+        let size = SIZES[k];
+        put_text(out, at, &row[..size], self.first, self.second, self.third)
     }
 }

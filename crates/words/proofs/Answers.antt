@@ -1,4 +1,4 @@
--- What the lent answers hold after `k` driver calls: a pair, or nothing. Assumes nothing.
+-- What the lent answers hold after `k` driver calls: a pair, or nothing.
 use mathlib.Core.Path.{_≡_, refl}
 use mathlib.Core.Bool.{Bool, true, false, cond, not}
 use mathlib.Core.List.{List}

@@ -1,4 +1,4 @@
--- Laws of `written`: it joins what two calls wrote, and it is what one record through the rest of the log leaves. Assumes nothing.
+-- Laws of `written`: it joins what two calls wrote, and it is what one record through the rest of the log leaves.
 use mathlib.Core.Path.{_≡_, refl, ap, sym, _∙_}
 use mathlib.Core.Logic.{⊎-elim}
 use mathlib.Core.List.{List, [], _∷_, _++_, append-assoc, append-nil}

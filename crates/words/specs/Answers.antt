@@ -1,4 +1,4 @@
--- Document 01, "Driver calls, log and trace": each driver call takes one lent answer pair (code, value).
+-- docs/RULES.md 2.2, 2.3: the answers lent to a call, and what each says.
 use mathlib.Core.Bool.{Bool, true, false, cond}
 use mathlib.Core.List.{List}
 use Prim.Native.Nat.{ℕ, _+_, _*_}
@@ -8,7 +8,7 @@ use Rattle.words.specs.declared.Answer.{Answer}
 use Rattle.words.specs.declared.Answer.the-variants.{Done, Failed, Missing}
 use Rattle.words.specs.declared.Reader.{Reader}
 
--- Code 0 is success. A value beside a code above 0 is ignored.
+-- The value counts only beside code 0, which is success.
 unfoldable pub ofPair : ℕ → ℕ → Answer
 ofPair code value = cond (eqb code 0) (Done value) (Failed code)
 
@@ -16,13 +16,13 @@ ofPair code value = cond (eqb code 0) (Done value) (Failed code)
 unfoldable pub lent : List ℕ → ℕ → Answer
 lent xs made = cond (ltb (2 * made + 1) (length xs)) (ofPair (getD xs (2 * made) 0) (getD xs (2 * made + 1) 0)) Missing
 
--- The code of a record. 17: the wanted call has code 0.
+-- The code of a record; 0 where the answer is missing (docs/RULES.md 2.5).
 abbrev pub codeOf : Answer → ℕ
 codeOf (Done v) = 0
 codeOf (Failed c) = c
 codeOf Missing = 0
 
--- The value is the base, the handle, or 1 for complete; a failed reserve or create has first 0, and so has a wanted one.
+-- The value that a record shows; 0 where the call failed or its answer is missing.
 abbrev pub valueOf : Answer → ℕ
 valueOf (Done v) = v
 valueOf (Failed c) = 0
@@ -33,7 +33,7 @@ failed (Done v) = false
 failed (Failed c) = true
 failed Missing = false
 
--- asked is complete only for pair (0, 1)
+-- code 0 with value 1, and nothing else
 abbrev pub complete : Answer → Bool
 complete x = eqb (valueOf x) 1
 

@@ -1,4 +1,4 @@
--- What a log holds: four numbers a record, from the start.
+-- docs/RULES.md 2.4: what a log holds.
 use mathlib.Core.List.{List, [], _∷_, _++_}
 use Prim.Native.Nat.{ℕ, _+_, _*_}
 use lib.ListN.{length, take, drop}

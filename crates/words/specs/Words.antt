@@ -1,4 +1,4 @@
--- Document 01, "Driver calls, log and trace": a log record is four numbers, kind (the words in this order, from 1), first, second, code (0 is success).
+-- docs/RULES.md 2.1: the driver's words, their numbers, and the record that each leaves.
 use Prim.Native.Nat.{ℕ}
 use Rattle.words.specs.declared.Word.{Word}
 use Rattle.words.specs.declared.Word.the-variants.{
@@ -59,7 +59,7 @@ release = line Release
 abbrev pub recorded : ℕ → ℕ → ℕ → Record
 recorded = line RecordEvent
 
--- event id, 1 complete, else 0
+-- event id, whether it is complete (docs/RULES.md 2.3)
 abbrev pub asked : ℕ → ℕ → ℕ → Record
 asked = line Asked
 
@@ -67,7 +67,7 @@ asked = line Asked
 abbrev pub wait : ℕ → ℕ → ℕ → Record
 wait = line Wait
 
--- stream (0 at close), 0
+-- stream, which is 0 in a close; 0
 abbrev pub sync : ℕ → ℕ → ℕ → Record
 sync = line Sync
 

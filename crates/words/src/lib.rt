@@ -116,7 +116,7 @@ fn taken_after(answers: &[u64], taken: usize) -> usize
     taken + 1
 }
 
-// A reader over the lent answers, which remembers its place: behind the answers that were taken.
+// Reads the lent answers in turn: its place is behind those that were taken.
 pub struct Reader<'a> {
     answers: &'a [u64],
     place: usize,
@@ -142,7 +142,8 @@ impl<'a> Reader<'a> {
 
     // The answer at the place, which moves on behind it.
     pub fn next<'s>(&'s mut self) -> Answer
-        ensures { λ r. ⌜ (r ≡ lent (now (now (self .entry) .answers)) (now (self .entry) .place)) × (now (self .exit) ≡ movedOn (now (self .entry))) ⌝ }
+        ensures { λ r. ⌜ (r ≡ lent (now (now (self .entry) .answers)) (now (self .entry) .place))
+            × (now (self .exit) ≡ movedOn (now (self .entry))) ⌝ }
     {
         let answers = self.answers;
         let place = self.place;

@@ -133,7 +133,7 @@ impl Ahead {
 
     fn record(&self, at: usize) -> Record {
         let numbers = [0, 1, 2, 3].map(|cell| self.log[4 * at + cell]);
-        Record::of_numbers(numbers).expect("libfinder.a writes document 01's words")
+        Record::of_numbers(numbers).expect("libfinder.a writes the rules' words")
     }
 }
 

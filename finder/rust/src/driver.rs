@@ -1,4 +1,4 @@
-//! The card's driver, as the pool sees it: document 01's words, a method for each.
+//! The card's driver, as the pool sees it: the words of docs/RULES.md 2.1, a method for each.
 
 use std::num::NonZeroU64;
 
@@ -113,7 +113,7 @@ impl<T: Answers> Driver for T {
     }
 }
 
-/// Document 01's driver words, in its order.
+/// The driver's words, in the order of their numbers.
 #[derive(Clone, Copy, Debug, PartialEq, Eq, PartialOrd, Ord)]
 #[allow(missing_docs, reason = "the methods of Driver say what they are")]
 pub enum Word {

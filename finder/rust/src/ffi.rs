@@ -133,7 +133,7 @@ pub struct Pool {
 pub struct Reply {
     /// The pool after the call.
     pub pool: Pool,
-    /// Document 01's number.
+    /// The answer's number (docs/RULES.md 4.1).
     pub answer: u64,
     /// The answer's first value.
     pub first: u64,

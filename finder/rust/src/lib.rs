@@ -1,6 +1,6 @@
 //! The proved virtual memory pool, for programs in Rust.
 //!
-//! The pool itself is a library in Rattle, whose functions are proved to do what document 01 says.
+//! The pool itself is a library in Rattle, whose functions are proved to do what docs/RULES.md says.
 //! It makes no driver call: it is lent the driver's answers and writes down the calls that they
 //! belong to. This package makes those calls. Write a [`Driver`] over the card's driver, then
 //!

@@ -1,4 +1,4 @@
-//! Document 01's answers other than success.
+//! The answers of docs/RULES.md 4.1 other than success.
 
 use std::{error::Error, fmt};
 
@@ -105,7 +105,7 @@ impl Refusal {
         })
     }
 
-    /// Document 01's number.
+    /// The answer's number.
     pub fn number(self) -> u64 {
         match self {
             PoolClosed => 1,

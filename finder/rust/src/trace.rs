@@ -1,4 +1,4 @@
-//! Document 01's trace: a call, its driver calls, its result, one line each.
+//! The trace of docs/RULES.md 6: a call, its driver calls, its result, one line each.
 
 use std::fmt;
 
@@ -57,7 +57,7 @@ pub struct Happened<'a> {
     pub call: Call,
     /// Its driver calls, in order.
     pub records: &'a [Record],
-    /// Document 01's number: 0 for success.
+    /// The answer's number: 0 for success.
     pub answer: u64,
     /// The answer's first value.
     pub first: u64,

@@ -1,4 +1,4 @@
--- `driving::ask` meets its contract: the answer is the lent one, and its record says whether the event is complete. Assumes nothing.
+-- `driving::ask` meets its contract: the answer is the lent one, and its record says whether the event is complete.
 use mathlib.Core.Bool.{cond}
 use Rattle.words.specs.Words.{asked}
 use Rattle.words.specs.Answers.{codeOf, complete}

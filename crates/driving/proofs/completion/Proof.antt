@@ -1,4 +1,4 @@
--- `driving::completion` meets its contract, by the test of the value. Assumes nothing.
+-- `driving::completion` meets its contract, by the test of the value.
 use native.Mathlib.Omega.{arith}
 use borrow.Author.Tests.{eq-eqb, ne-eqb}
 use Rattle.words.specs.Answers.{valueOf}

@@ -1,4 +1,4 @@
--- `driving::create` meets its contract, by the promise of `hear`. Assumes nothing.
+-- `driving::create` meets its contract, by the promise of `hear`.
 use Rattle.tables.specs.Driver.{create}
 use borrow.Author.Needs.{needs}
 use Rattle.driving.proofs.create.Statement.{statement}

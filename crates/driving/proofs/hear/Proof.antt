@@ -1,4 +1,4 @@
--- `driving::hear` meets its contract: the answer is the lent one, and its record has the answer's value. Assumes nothing.
+-- `driving::hear` meets its contract: the answer is the lent one, and its record has the answer's value.
 use Rattle.words.specs.Words.{line}
 use Rattle.words.specs.Answers.{codeOf, valueOf}
 use Rattle.driving.proofs.Ran.{drove}

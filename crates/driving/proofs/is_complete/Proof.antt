@@ -1,4 +1,4 @@
--- `driving::is_complete` meets its contract: complete for the value 1 alone, and an end where no answer is left. Assumes nothing.
+-- `driving::is_complete` meets its contract: complete for the value 1 alone, and an end where no answer is left.
 use Rattle.driving.proofs.Ran.{next, stop, gave}
 use borrow.Author.Needs.{needs}
 use Rattle.driving.proofs.is_complete.Statement.{statement}

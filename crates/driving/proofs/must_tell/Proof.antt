@@ -1,4 +1,4 @@
--- `driving::must_tell` meets its contract: by the answer, the step goes on or ends. Assumes nothing.
+-- `driving::must_tell` meets its contract: by the answer, the step goes on or ends.
 use Rattle.driving.proofs.Ran.{next, stop, gave, ended}
 use borrow.Author.Needs.{needs}
 use Rattle.driving.proofs.must_tell.Statement.{statement}

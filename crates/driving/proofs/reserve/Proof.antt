@@ -1,4 +1,4 @@
--- `driving::reserve` meets its contract, by the promise of `hear`. Assumes nothing.
+-- `driving::reserve` meets its contract, by the promise of `hear`.
 use Rattle.tables.specs.Driver.{reserve}
 use borrow.Author.Needs.{needs}
 use Rattle.driving.proofs.reserve.Statement.{statement}

@@ -1,4 +1,4 @@
--- `driving::stepped_at` meets its contract, by how the part ended. Assumes nothing.
+-- `driving::stepped_at` meets its contract, by how the part ended.
 use mathlib.Core.Path.{sym, ap}
 use borrow.Author.Needs.{needs}
 use Rattle.driving.specs.Endings.{steppedAt}

@@ -1,4 +1,4 @@
--- `driving::tell` meets its contract: the answer is the lent one, and its record is the one that is written. Assumes nothing.
+-- `driving::tell` meets its contract: the answer is the lent one, and its record is the one that is written.
 use Rattle.words.specs.Words.{line}
 use Rattle.words.specs.Answers.{codeOf}
 use Rattle.driving.proofs.Ran.{drove}

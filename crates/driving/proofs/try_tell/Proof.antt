@@ -1,4 +1,4 @@
--- `driving::try_tell` meets its contract: the step goes on, unless no answer is left. Assumes nothing.
+-- `driving::try_tell` meets its contract: the step goes on, unless no answer is left.
 use Rattle.driving.proofs.Ran.{next, stop, gave}
 use borrow.Author.Needs.{needs}
 use Rattle.driving.proofs.try_tell.Statement.{statement}

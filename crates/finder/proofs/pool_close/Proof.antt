@@ -1,4 +1,4 @@
--- `finder::pool_close` meets its contract: `Pool::close`'s own, with the numbers of the outcome. Assumes nothing.
+-- `finder::pool_close` meets its contract: `Pool::close`'s own, with the numbers of the outcome.
 use borrow.Author.Needs.{needs}
 use Rattle.finder.proofs.Told.{tells}
 use Rattle.finder.proofs.pool_close.Statement.{statement}
@@ -7,8 +7,8 @@ use Rattle.finder.proofs.pool_close.Tie as tie
 close-requires : tie.Need-close-requires
 close-requires c κs = search needs
 
-numbers-of-requires : tie.Need-numbers-of-requires
-numbers-of-requires c κs = search needs
+numbers-requires : tie.Need-numbers-requires
+numbers-requires c κs = search needs
 
 same-length : tie.Need-same-length
 same-length c = search needs
@@ -16,7 +16,7 @@ same-length c = search needs
 returns : tie.Need-returns
 returns c =
     let called = c .before .before .before .before in
-    tells _ (called .close .result) (c .before .numbers-of .result) _ _ (called .close .ensures) (c .before .numbers-of .ensures)
+    tells _ (called .close .result) (c .before .numbers .result) _ _ (called .close .ensures) (c .before .numbers .ensures)
 
 pub pool-close-spec : {M : Type 1} → statement M
-pool-close-spec = tie.close (tie.spec close-requires numbers-of-requires same-length returns)
+pool-close-spec = tie.close (tie.spec close-requires numbers-requires same-length returns)

@@ -1,4 +1,4 @@
--- `finder::pool_malloc` meets its contract: `Pool::malloc`'s own, with the numbers of the outcome. Assumes nothing.
+-- `finder::pool_malloc` meets its contract: `Pool::malloc`'s own, with the numbers of the outcome.
 use borrow.Author.Needs.{needs}
 use Rattle.finder.proofs.Told.{tells}
 use Rattle.finder.proofs.pool_malloc.Statement.{statement}
@@ -7,8 +7,8 @@ use Rattle.finder.proofs.pool_malloc.Tie as tie
 malloc-requires : tie.Need-malloc-requires
 malloc-requires c κs = search needs
 
-numbers-of-requires : tie.Need-numbers-of-requires
-numbers-of-requires c κs = search needs
+numbers-requires : tie.Need-numbers-requires
+numbers-requires c κs = search needs
 
 same-length : tie.Need-same-length
 same-length c = search needs
@@ -16,7 +16,7 @@ same-length c = search needs
 returns : tie.Need-returns
 returns c =
     let called = c .before .before .before .before in
-    tells _ (called .malloc .result) (c .before .numbers-of .result) _ _ (called .malloc .ensures) (c .before .numbers-of .ensures)
+    tells _ (called .malloc .result) (c .before .numbers .result) _ _ (called .malloc .ensures) (c .before .numbers .ensures)
 
 pub pool-malloc-spec : {M : Type 1} → statement M
-pool-malloc-spec = tie.close (tie.spec malloc-requires numbers-of-requires same-length returns)
+pool-malloc-spec = tie.close (tie.spec malloc-requires numbers-requires same-length returns)

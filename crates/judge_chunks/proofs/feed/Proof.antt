@@ -1,26 +1,29 @@
--- `judge_chunks::feed` meets its contract: before each turn the verdict on what is left is that on the whole. Assumes nothing.
+-- `judge_chunks::feed` meets its contract: before each turn the verdict on what is left is that on the whole.
 use borrow.Author.Needs.{needs}
 use mathlib.Core.Path.{_≡_, refl, ap, sym, _∙_}
 use mathlib.Core.List.{List, _++_}
 use Prim.Native.Nat.{ℕ, _+_, _-_, _≤_}
 use native.Mathlib.Omega.{arith}
-use lib.ListN.{length, drop}
-use Rattle.judge_chunks.specs.Judgement.{verdictAfter, Begun}
-use Rattle.judge_chunks.proofs.Readings.{no-more, drop-all}
+use lib.ListN.{length, drop, drop-of-length-le}
+use Rattle.judge_steps.specs.State.{lent}
+use Rattle.judge_chunks.specs.Promises.{verdictAfter, Begun}
+use Rattle.judge_chunks.proofs.LineByLine.{SameLengths, no-more}
 use Rattle.judge_chunks.proofs.feed.Statement.{statement}
 use Rattle.judge_chunks.proofs.feed.Tie as tie
 
 abbrev Inv-loop : tie.InvT-loop
 Inv-loop reservations₀ held₀ mapped₀ live₀ chunk q₀ at₀ reservations held mapped live q at =
-    ((at ≤ length chunk) × ((q .lines ≤ q₀ .lines + at) × ((length reservations ≡ length reservations₀) × ((length held ≡ length held₀) × ((length mapped ≡ length mapped₀) × (length live ≡ length live₀))))))
-    × (Begun q reservations held mapped live × ((rest : List ℕ) → verdictAfter q reservations held mapped live (drop at chunk ++ rest) ≡ verdictAfter q₀ reservations₀ held₀ mapped₀ live₀ (chunk ++ rest)))
+    let t₀ = lent reservations₀ held₀ mapped₀ live₀ in
+    let t = lent reservations held mapped live in
+    ((at ≤ length chunk) × ((q .lines ≤ q₀ .lines + at) × SameLengths t₀ t))
+    × (Begun q t × ((rest : List ℕ) → verdictAfter q t (drop at chunk ++ rest) ≡ verdictAfter q₀ t₀ (chunk ++ rest)))
 
 abbrev μ-loop : tie.MeasureT-loop
 μ-loop reservations₀ held₀ mapped₀ live₀ chunk q₀ at₀ reservations held mapped live q at = length chunk - at
 
 loop-holds : tie.Need-loop-holds Inv-loop μ-loop
 loop-holds c =
-    ((omega arith, (omega arith, (refl, (refl, (refl, refl))))), (c .before .before .before .before .before .pre .0, λ rest. refl))
+    ((omega arith, (omega arith, record { reservations = refl; held = refl; mapped = refl; live = refl })), (c .before .before .before .before .before .pre .begun, λ rest. refl))
 
 enum-told : tie.Need-enum-told Inv-loop μ-loop
 enum-told c = search needs
@@ -52,7 +55,7 @@ feed-line-requires c κs =
     let p = t .before .before .before .loop in
     let st = t .before .before .before .before .before .before .before .before .before in
     let e = t .enum-told .given .1 in
-    (e, (p .inv .1 .0 e, (search needs, omega (arith, st .pre .1, p .inv .0 .1 .0))))
+    ((e, search needs), record { ready = p .inv .1 .0 e; counted = omega (arith, st .pre .counted, p .inv .0 .1 .0) })
 
 loop-less : tie.Need-loop-less Inv-loop μ-loop
 loop-less c =
@@ -66,7 +69,7 @@ loop-again c =
     let k = f .kept in
     let p = c .before .before .before .before .before .before .before .before .before .before .before .before .before .before .before .before .before .loop in
     let i = p .inv .0 .1 .1 in
-    ((o .within, (omega (arith, o .moved, o .lines, p .inv .0 .1 .0), (k .1 .0 ∙ i .0, (k .1 .1 .0 ∙ i .1 .0, (k .1 .1 .1 .0 ∙ i .1 .1 .0, k .1 .1 .1 .1 .0 ∙ i .1 .1 .1))))), (o .begun, λ rest. o .says rest ∙ p .inv .1 .1 rest))
+    ((o .within, (omega (arith, o .moved, o .lines, p .inv .0 .1 .0), record { reservations = k .1 .0 ∙ i .reservations; held = k .1 .1 .0 ∙ i .held; mapped = k .1 .1 .1 .0 ∙ i .mapped; live = k .1 .1 .1 .1 .0 ∙ i .live })), (o .begun, λ rest. o .says rest ∙ p .inv .1 .1 rest))
 
 same-length-5 : tie.Need-same-length-5 Inv-loop μ-loop
 same-length-5 c = search needs
@@ -84,11 +87,11 @@ returns-2 : tie.Need-returns-2 Inv-loop μ-loop
 returns-2 c =
     let p = c .before .loop in
     let v = c .before .before .before .before .before .before .before .args in
-    let e = drop-all (p .at) (v .chunk .now) (omega arith) in
+    let e = drop-of-length-le (v .chunk .now) {i = p .at} (omega arith) in
     record {
       begun = p .inv .1 .0;
       lines = omega (arith, p .inv .0 .0, p .inv .0 .1 .0);
-      says = λ rest. ap (λ z. verdictAfter (p .q) (p .reservations) (p .held) (p .mapped) (p .live) (z ++ rest)) (sym e) ∙ p .inv .1 .1 rest;
+      says = λ rest. ap (λ z. verdictAfter (p .q) (lent (p .reservations) (p .held) (p .mapped) (p .live)) (z ++ rest)) (sym e) ∙ p .inv .1 .1 rest;
     }
 
 pub feed-spec : {M : Type 1} → statement M

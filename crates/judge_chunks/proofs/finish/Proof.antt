@@ -1,20 +1,21 @@
--- `judge_chunks::finish` meets its contract: the last line, then the verdict on the whole. Assumes nothing.
+-- `judge_chunks::finish` meets its contract: the last line, then the verdict on the whole.
 use borrow.Author.Needs.{needs}
 use mathlib.Core.Path.{_∙_}
 use native.Mathlib.Omega.{arith}
+use Rattle.judge_steps.specs.State.{lent}
 use Rattle.judge_chunks.proofs.finish.Statement.{statement}
 use Rattle.judge_chunks.proofs.finish.Tie as tie
 
 last-line-requires : tie.Need-last-line-requires
 last-line-requires c κs =
     let st = c .before .before .before .before .before .before .before .before in
-    (st .pre .0, omega (arith, st .pre .1))
+    record { begun = st .pre .begun; counted = omega (arith, st .pre .counted) }
 
 settle-requires : tie.Need-settle-requires
 settle-requires c κs =
     let q = c .before .before .before .before .before .before .before .before .last-line in
     let st = c .before .before .before .before .before .before .before .before .before .before .before .before .before .before .before .before .before in
-    omega (arith, q .ensures .0, st .pre .1)
+    omega (arith, q .ensures .lines, st .pre .counted)
 
 same-length : tie.Need-same-length
 same-length c = search needs
@@ -32,7 +33,8 @@ returns : tie.Need-returns
 returns c =
     let q = c .before .before .before .before .before .before .before .before .before .last-line in
     let a = q .last in
-    c .settle .ensures (a .1 .0) (a .1 .1 .0) (a .1 .1 .1 .0) (a .1 .1 .1 .1 .0) ∙ q .ensures .1
+    let t₁ = lent (a .1 .0) (a .1 .1 .0) (a .1 .1 .1 .0) (a .1 .1 .1 .1 .0) in
+    c .settle .ensures t₁ ∙ q .ensures .says
 
 pub finish-spec : {M : Type 1} → statement M
 finish-spec =

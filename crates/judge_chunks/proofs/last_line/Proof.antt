@@ -1,9 +1,10 @@
--- `judge_chunks::last_line` meets its contract: refused before, no line left, or one line more. Assumes nothing.
+-- `judge_chunks::last_line` meets its contract: refused before, no line left, or one line more.
 use borrow.Author.Needs.{needs}
 use mathlib.Core.Path.{sym, _∙_}
 use native.Mathlib.Omega.{arith}
-use Rattle.judge_chunks.proofs.Readings.{no-more}
-use Rattle.judge_chunks.proofs.Ends.{ends-fresh, ends-line}
+use Rattle.judge_steps.specs.State.{lent}
+use Rattle.judge_chunks.proofs.LineByLine.{no-more}
+use Rattle.judge_chunks.proofs.StartAndEnd.{ends-fresh, ends-line}
 use Rattle.judge_chunks.proofs.last_line.Statement.{statement}
 use Rattle.judge_chunks.proofs.last_line.Tie as tie
 
@@ -13,7 +14,7 @@ enum-told c = search needs
 returns : tie.Need-returns
 returns c =
     let v = c .before .before .before .before .before .args in
-    (omega arith, no-more (v .p .outcome) (c .match .keys2) (v .p .lines) _ _)
+    record { lines = omega arith; says = no-more (v .p .outcome) (c .match .keys2) (v .p .lines) _ _ }
 
 is-fresh-requires : tie.Need-is-fresh-requires
 is-fresh-requires c κs = search needs
@@ -21,7 +22,8 @@ is-fresh-requires c κs = search needs
 returns-2 : tie.Need-returns-2
 returns-2 c =
     let v = c .before .before .before .before .before .before .before .before .args in
-    (omega arith, ends-fresh (v .p) (v .reservations .now) (v .held .now) (v .mapped .now) (v .live .now) (sym (c .before .is-fresh .ensures) ∙ c .if1 .taken))
+    let t₀ = lent (v .reservations .now) (v .held .now) (v .mapped .now) (v .live .now) in
+    record { lines = omega arith; says = ends-fresh (v .p) t₀ (sym (c .before .is-fresh .ensures) ∙ c .if1 .taken) }
 
 finish-requires : tie.Need-finish-requires
 finish-requires c κs = search needs
@@ -30,7 +32,7 @@ on-reading-requires : tie.Need-on-reading-requires
 on-reading-requires c κs =
     let t = c .before .before .before .before .before .before .before in
     let st = t .before .before .before .before .before .before in
-    (st .pre .0 (t .enum-told .given .1), st .pre .1)
+    record { ready = st .pre .begun (t .enum-told .given .1); counted = st .pre .counted }
 
 same-length : tie.Need-same-length
 same-length c = search needs
@@ -51,9 +53,14 @@ returns-3 c =
     let x = f .before .before .before .before .before in
     let t = x .before .before in
     let v = t .before .before .before .before .before .before .args in
+    let t₀ = lent (v .reservations .now) (v .held .now) (v .mapped .now) (v .live .now) in
     let j = o .on-reading .ensures in
     let a = o .on-reading .last in
-    (omega (arith, j .lines), ends-line (v .p) (v .reservations .now) (v .held .now) (v .mapped .now) (v .live .now) (sym (x .before .is-fresh .ensures) ∙ x .if1 .left) (t .enum-told .given .1) (o .on-reading .result) (f .finish .result) (a .1 .0) (a .1 .1 .0) (a .1 .1 .1 .0) (a .1 .1 .1 .1 .0) (f .finish .ensures) j)
+    let t₁ = lent (a .1 .0) (a .1 .1 .0) (a .1 .1 .1 .0) (a .1 .1 .1 .1 .0) in
+    record {
+      lines = omega (arith, j .lines);
+      says = ends-line (v .p) t₀ (sym (x .before .is-fresh .ensures) ∙ x .if1 .left) (t .enum-told .given .1) (o .on-reading .result) (f .finish .result) t₁ (f .finish .ensures) j;
+    }
 
 pub last-line-spec : {M : Type 1} → statement M
 last-line-spec =

@@ -1,10 +1,10 @@
--- `judge_chunks::on_reading` meets its contract: a line's step, or R0 for one that is malformed. Assumes nothing.
+-- `judge_chunks::on_reading` meets its contract: a line's step, or R0 for one that is malformed.
 use borrow.Author.Needs.{needs}
 use mathlib.Core.Path.{_≡_, refl, ap, sym, _∙_}
 use mathlib.Core.List.{_∷_}
-use Rattle.judging.specs.Verdict.{verdictFrom}
-use Rattle.judge_steps.specs.State.{judgeOf}
-use Rattle.judge_chunks.proofs.Readings.{good-says, good-ready, broken-not-on}
+use Rattle.judge_rules.specs.Verdict.{verdictFrom}
+use Rattle.judge_steps.specs.State.{lent, judgeOf}
+use Rattle.judge_chunks.proofs.LineByLine.{SameLengths, good-says, good-ready, broken-not-on}
 use Rattle.judge_chunks.proofs.on_reading.Statement.{statement}
 use Rattle.judge_chunks.proofs.on_reading.Tie as tie
 
@@ -41,15 +41,19 @@ returns c =
     let k = o .before .before .before .before .before .before .before in
     let st = k .before .before .before .before .before .before .before .before in
     let v = st .args in
+    let t₀ = lent (v .reservations .now) (v .held .now) (v .mapped .now) (v .live .now) in
     let r = o .step .result in
     let e : v .reading ≡ _ = k .reading .given .1 in
     let a = o .step .last in
-    let g = good-says (v .p .state) (r .state) (r .outcome) (v .reservations .now) (v .held .now) (v .mapped .now) (v .live .now) (a .1 .0) (a .1 .1 .0) (a .1 .1 .1 .0) (a .1 .1 .1 .1 .0) _ (o .step .ensures) in
+    let t₁ = lent (a .1 .0) (a .1 .1 .0) (a .1 .1 .1 .0) (a .1 .1 .1 .1 .0) in
+    let b = o .step .kept in
+    let k₁ : SameLengths t₀ t₁ = record { reservations = b .1 .0; held = b .1 .1 .0; mapped = b .1 .1 .1 .0; live = b .1 .1 .1 .1 .0 } in
+    let g = good-says (v .p .state) (r .state) (r .outcome) t₀ t₁ _ (o .step .ensures) in
     record {
       lines = refl;
       partial = k .before .before .fresh .ensures;
-      ready = good-ready (v .p .state) (r .state) (r .outcome) (v .reservations .now) (v .held .now) (v .mapped .now) (v .live .now) (a .1 .0) (a .1 .1 .0) (a .1 .1 .1 .0) (a .1 .1 .1 .1 .0) _ (o .step .ensures) (st .pre .0) (o .step .kept .1 .0) (o .step .kept .1 .1 .0) (o .step .kept .1 .1 .1 .0) (o .step .kept .1 .1 .1 .1 .0);
-      says = λ t. g (v .p .lines) t ∙ ap (λ x. verdictFrom (v .p .lines) (judgeOf (v .p .state) (v .reservations .now) (v .held .now) (v .mapped .now) (v .live .now)) (x ∷ t)) (sym e);
+      ready = good-ready (v .p .state) (r .state) (r .outcome) t₀ t₁ _ (o .step .ensures) (st .pre .ready) k₁;
+      says = λ xs. g (v .p .lines) xs ∙ ap (λ x. verdictFrom (v .p .lines) (judgeOf (v .p .state) t₀) (x ∷ xs)) (sym e);
     }
 
 returns-2 : tie.Need-returns-2
@@ -57,11 +61,12 @@ returns-2 c =
     let k = c .before in
     let st = k .before .before .before .before .before .before .before .before in
     let v = st .args in
+    let t₀ = lent (v .reservations .now) (v .held .now) (v .mapped .now) (v .live .now) in
     record {
       lines = refl;
       partial = k .before .before .fresh .ensures;
       ready = λ q. absurd (broken-not-on 0 q);
-      says = λ t. ap (λ x. verdictFrom (v .p .lines) (judgeOf (v .p .state) (v .reservations .now) (v .held .now) (v .mapped .now) (v .live .now)) (x ∷ t)) (sym (k .enum-told .given .1));
+      says = λ xs. ap (λ x. verdictFrom (v .p .lines) (judgeOf (v .p .state) t₀) (x ∷ xs)) (sym (k .enum-told .given .1));
     }
 
 pub on-reading-spec : {M : Type 1} → statement M

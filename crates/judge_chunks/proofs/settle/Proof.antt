@@ -1,7 +1,7 @@
--- `judge_chunks::settle` meets its contract, by cases of what the last line came to. Assumes nothing.
+-- `judge_chunks::settle` meets its contract, by cases of what the last line came to.
 use borrow.Author.Needs.{needs}
 use borrow.Author.Tests.{not-true, not-false}
-use Rattle.judge_chunks.proofs.Ends.{settle-unopened, settle-waiting, settle-accepted, settle-broken, settle-beyond}
+use Rattle.judge_chunks.proofs.StartAndEnd.{settle-unopened, settle-waiting, settle-accepted, settle-broken, settle-beyond}
 use Rattle.judge_chunks.proofs.settle.Statement.{statement}
 use Rattle.judge_chunks.proofs.settle.Tie as tie
 
@@ -15,7 +15,7 @@ returns : tie.Need-returns
 returns c =
     let e = c .before .before .before .before .before in
     let v = e .before .before .args in
-    λ a h m l. settle-unopened (v .p) a h m l (e .enum-told .given .1) (not-true (v .p .state .run .opened) (c .before .if1 .taken))
+    λ t. settle-unopened (v .p) t (e .enum-told .given .1) (not-true (v .p .state .run .opened) (c .before .if1 .taken))
 
 add-t10 : tie.Need-add-t10
 add-t10 c = search needs
@@ -25,7 +25,7 @@ returns-2 c =
     let x = c .before .before in
     let e = x .before .before .before .before in
     let v = e .before .before .args in
-    λ a h m l. settle-waiting (v .p) a h m l (e .enum-told .given .1) (not-false (v .p .state .run .opened) (x .if1 .left)) (c .before .if2 .taken)
+    λ t. settle-waiting (v .p) t (e .enum-told .given .1) (not-false (v .p .state .run .opened) (x .if1 .left)) (c .before .if2 .taken)
 
 enum-known-outcome : tie.Need-enum-known-outcome
 enum-known-outcome c = search needs
@@ -38,17 +38,17 @@ returns-3 c =
     let x = c .before in
     let e = x .before .before .before .before in
     let v = e .before .before .args in
-    λ a h m l. settle-accepted (v .p) a h m l (e .enum-told .given .1) (not-false (v .p .state .run .opened) (x .if1 .left)) (c .if2 .left)
+    λ t. settle-accepted (v .p) t (e .enum-told .given .1) (not-false (v .p .state .run .opened) (x .if1 .left)) (c .if2 .left)
 
 returns-4 : tie.Need-returns-4
 returns-4 c =
     let v = c .before .before .before .args in
-    λ a h m l. settle-broken (v .p) a h m l _ (c .before .outcome .given .1)
+    λ t. settle-broken (v .p) t _ (c .before .outcome .given .1)
 
 returns-5 : tie.Need-returns-5
 returns-5 c =
     let v = c .before .before .before .args in
-    λ a h m l. settle-beyond (v .p) a h m l _ (c .before .outcome2 .given .1)
+    λ t. settle-beyond (v .p) t _ (c .before .outcome2 .given .1)
 
 pub settle-spec : {M : Type 1} → statement M
 settle-spec =

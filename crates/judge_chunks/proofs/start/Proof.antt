@@ -1,7 +1,7 @@
--- `judge_chunks::start` meets its contract. Assumes nothing.
+-- `judge_chunks::start` meets its contract.
 use borrow.Author.Needs.{needs}
 use mathlib.Core.Path.{ap}
-use Rattle.judge_chunks.specs.Judgement.{atStart}
+use Rattle.judge_chunks.specs.Promises.{atStart}
 use Rattle.judge_chunks.proofs.start.Statement.{statement}
 use Rattle.judge_chunks.proofs.start.Tie as tie
 

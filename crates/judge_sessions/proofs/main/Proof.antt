@@ -1,4 +1,4 @@
--- `judge_sessions::main` meets its contract: each turn leaves one argument less. Assumes nothing.
+-- `judge_sessions::main` meets its contract: each turn leaves one argument less.
 use Prim.Native.Nat.{_-_}
 use borrow.Author.Needs.{needs}
 use Rattle.judge_sessions.proofs.main.Statement.{statement}

@@ -1,11 +1,11 @@
--- `judge_tables::all_mapped` meets its contract: what the pages come to is what those from the place of the walk on come to. Assumes nothing.
+-- `judge_tables::all_mapped` meets its contract: what the pages come to is what those from the place of the walk on come to.
 use mathlib.Core.Path.{_≡_, refl, sym, _∙_}
 use Prim.Native.Nat.{_+_, _-_, _≤_, _<_, _^_}
 use native.Mathlib.Omega.{arith}
 use borrow.Author.Needs.{needs}
 use borrow.Author.Tests.{not-true, not-false}
 use Rattle.lists.specs.Tests.{any, every}
-use Rattle.judging.specs.Ranges.{pagesFrom}
+use Rattle.judge_rules.specs.Ranges.{pagesFrom}
 use Rattle.judge_tables.specs.Rows.{rows, firstIs}
 use Rattle.judge_tables.proofs.Mapped.{pages-not, pages-on, pages-beyond}
 use Rattle.judge_tables.proofs.all_mapped.Statement.{statement}

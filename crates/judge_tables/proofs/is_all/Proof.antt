@@ -1,4 +1,4 @@
--- `judge_tables::is_all` meets its contract, by cases of its tests. Assumes nothing.
+-- `judge_tables::is_all` meets its contract, by cases of its tests.
 use borrow.Author.Tests.{eq-eqb, ne-eqb}
 use Rattle.judge_tables.proofs.is_all.Statement.{statement}
 use Rattle.judge_tables.proofs.is_all.Tie as tie

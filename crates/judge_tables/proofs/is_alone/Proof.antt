@@ -1,4 +1,4 @@
--- `judge_tables::is_alone` meets its contract, by cases of its test. Assumes nothing.
+-- `judge_tables::is_alone` meets its contract, by cases of its test.
 use mathlib.Core.Path.{sym, _∙_}
 use borrow.Author.Needs.{needs}
 use borrow.Author.Tests.{not-true, not-false}

@@ -1,4 +1,4 @@
--- `judge_tables::is_both` meets its contract, by cases of its tests. Assumes nothing.
+-- `judge_tables::is_both` meets its contract, by cases of its tests.
 use borrow.Author.Tests.{eq-eqb, ne-eqb}
 use Rattle.judge_tables.proofs.is_both.Statement.{statement}
 use Rattle.judge_tables.proofs.is_both.Tie as tie

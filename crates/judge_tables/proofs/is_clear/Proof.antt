@@ -1,4 +1,4 @@
--- `judge_tables::is_clear` meets its contract, by cases of its tests. Assumes nothing.
+-- `judge_tables::is_clear` meets its contract, by cases of its tests.
 use borrow.Author.Needs.{needs}
 use Rattle.judge_tables.proofs.Ranges.{clear-above, clear-below, clear-across, clear-same}
 use Rattle.judge_tables.proofs.is_clear.Statement.{statement}

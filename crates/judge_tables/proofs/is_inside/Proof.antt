@@ -1,4 +1,4 @@
--- `judge_tables::is_inside` meets its contract, by cases of its tests. Assumes nothing.
+-- `judge_tables::is_inside` meets its contract, by cases of its tests.
 use Rattle.judge_tables.proofs.Ranges.{inside-low, inside-at}
 use Rattle.judge_tables.proofs.is_inside.Statement.{statement}
 use Rattle.judge_tables.proofs.is_inside.Tie as tie

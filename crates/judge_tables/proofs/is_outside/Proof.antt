@@ -1,4 +1,4 @@
--- `judge_tables::is_outside` meets its contract: it is not inside. Assumes nothing.
+-- `judge_tables::is_outside` meets its contract: it is not inside.
 use mathlib.Core.Path.{ap}
 use mathlib.Core.Bool.{not}
 use borrow.Author.Needs.{needs}

@@ -1,4 +1,4 @@
--- `judge_tables::is_within` meets its contract, by cases of its tests. Assumes nothing.
+-- `judge_tables::is_within` meets its contract, by cases of its tests.
 use Rattle.judge_tables.proofs.Ranges.{within-low, within-high, within-at}
 use Rattle.judge_tables.proofs.is_within.Statement.{statement}
 use Rattle.judge_tables.proofs.is_within.Tie as tie

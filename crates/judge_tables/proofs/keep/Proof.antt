@@ -1,4 +1,4 @@
--- `judge_tables::keep` meets its contract: the row is put where it stays. Assumes nothing.
+-- `judge_tables::keep` meets its contract: the row is put where it stays.
 use mathlib.Core.Path.{_≡_, ap, sym, _∙_}
 use mathlib.Core.Bool.{true, false}
 use borrow.Author.Needs.{needs}
@@ -28,7 +28,7 @@ returns c =
     let a = v .before .before .before .args in
     let w = v .read .ensures in
     let s : stays (a .a) (a .n) (rowAt (a .t .now) (a .i)) ≡ true = ap (stays (a .a) (a .n)) (sym w) ∙ sym (t .before .is-outside .ensures) ∙ t .if1 .taken in
-    (rw s, c .before .before .put .ensures ∙ rw s (ap (putRow (a .t .now) (a .j)) w))
+    record { next = rw s; table = c .before .before .put .ensures ∙ rw s (ap (putRow (a .t .now) (a .j)) w) }
 
 same-length-2 : tie.Need-same-length-2
 same-length-2 c = search needs
@@ -38,7 +38,7 @@ returns-2 c =
     let v = c .before .before in
     let a = v .before .before .before .args in
     let s : stays (a .a) (a .n) (rowAt (a .t .now) (a .i)) ≡ false = ap (stays (a .a) (a .n)) (sym (v .read .ensures)) ∙ sym (c .before .is-outside .ensures) ∙ c .if1 .left in
-    (rw s, rw s)
+    record { next = rw s; table = rw s }
 
 pub keep-spec : {M : Type 1} → statement M
 keep-spec =

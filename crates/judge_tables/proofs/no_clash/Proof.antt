@@ -1,4 +1,4 @@
--- `judge_tables::no_clash` meets its contract, by cases of its tests. Assumes nothing.
+-- `judge_tables::no_clash` meets its contract, by cases of its tests.
 use mathlib.Core.Path.{sym, _∙_}
 use borrow.Author.Needs.{needs}
 use Rattle.judge_tables.specs.Rows.{rows}

@@ -1,4 +1,4 @@
--- `judge_tables::put` meets its contract: three stores. Assumes nothing.
+-- `judge_tables::put` meets its contract: three stores.
 use mathlib.Core.Path.{refl}
 use native.Mathlib.Omega.{arith}
 use lib.ListN.{length-set}

@@ -1,5 +1,4 @@
 -- `judge_tables::without` meets its contract: before each turn the rows kept are those that stay of the rows passed, and the rest stand as they were.
--- Assumes nothing.
 use mathlib.Core.Path.{_≡_, refl, _∙_}
 use Prim.Native.Nat.{ℕ, _≤_, _-_}
 use native.Mathlib.Omega.{arith}
@@ -41,7 +40,7 @@ loop-again c =
     let l = keep-rows p (a .t .now) t (v .loop .i) (v .loop .j) (p w) refl (v .loop .inv .1 .1 (v .loop .i) (omega arith)) (omega arith) (v .loop .inv .1 .0) in
     let r = keep-rest p (a .t .now) t (v .loop .i) (v .loop .j) w (p w) (omega arith) (v .loop .inv .1 .1) in
     let n = keep-count p (a .t .now) t (v .loop .i) (v .loop .j) (p w) (omega arith) in
-    ((omega arith, (rw (k .ensures .0) n, omega (arith, k .kept .0))), (rw (k .ensures .0, k .ensures .1) l, rw (k .ensures .1) r))
+    ((omega arith, (rw (k .ensures .next) n, omega (arith, k .kept .0))), (rw (k .ensures .next, k .ensures .table) l, rw (k .ensures .table) r))
 
 same-length : tie.Need-same-length Inv-loop μ-loop
 same-length c = search needs
@@ -50,7 +49,7 @@ returns : tie.Need-returns Inv-loop μ-loop
 returns c =
     let v = c .before in
     let z : v .loop .i ≡ v .before .before .args .count = omega arith in
-    (omega arith, v .loop .inv .1 .0 ∙ rw z)
+    record { few = omega arith; left = v .loop .inv .1 .0 ∙ rw z }
 
 pub without-spec : {M : Type 1} → statement M
 without-spec =

@@ -1,4 +1,4 @@
--- `lists::better_of` meets its contract: each return rewrites with the tests that led there. Assumes nothing.
+-- `lists::better_of` meets its contract: each return rewrites with the tests that led there.
 use borrow.Author.Needs.{needs}
 use Rattle.lists.proofs.Tests.{tests}
 use Rattle.lists.proofs.better_of.Statement.{statement}

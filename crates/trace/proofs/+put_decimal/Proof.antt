@@ -1,4 +1,4 @@
--- `trace::put_decimal` meets its contract. It calls itself on a tenth, which is less; `ends-in` says that the last digit follows the decimal of that. Assumes nothing.
+-- `trace::put_decimal` meets its contract. It calls itself on a tenth, which is less; `ends-in` says that the last digit follows the decimal of that.
 use mathlib.Core.Path.{_≡_, sym, _∙_, ap}
 use Prim.Native.Nat.{_+_, _/_, _%_}
 use native.Mathlib.Omega.{arith}

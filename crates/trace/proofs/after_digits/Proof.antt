@@ -1,4 +1,4 @@
--- `trace::after_digits` meets its contract: each return is a case of the rule; one digit more stays below 2^64 exactly where the quotient's test says so. Assumes nothing.
+-- `trace::after_digits` meets its contract: each return is a case of the rule; one digit more stays below 2^64 exactly where the quotient's test says so.
 use Prim.Native.Nat.{_+_, _-_, _*_, _^_}
 use native.Mathlib.Omega.{arith}
 use borrow.Author.Tests.{lt-ltb, le-ltb, le-leb, lt-leb, eq-eqb, ne-eqb}

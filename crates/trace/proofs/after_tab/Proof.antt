@@ -1,4 +1,4 @@
--- `trace::after_tab` meets its contract: each return is a case of the rule. Assumes nothing.
+-- `trace::after_tab` meets its contract: each return is a case of the rule.
 use borrow.Author.Tests.{le-leb, lt-leb}
 use Rattle.trace.specs.Machine.{afterTab}
 use borrow.Author.Needs.{needs}

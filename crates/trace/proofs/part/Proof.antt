@@ -1,4 +1,4 @@
--- `trace::part` meets its contract, variant by variant. Assumes nothing.
+-- `trace::part` meets its contract, variant by variant.
 use borrow.Author.Needs.{needs}
 use Rattle.trace.proofs.part.Statement.{statement}
 use Rattle.trace.proofs.part.Tie as tie

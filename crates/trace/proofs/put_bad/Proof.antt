@@ -1,4 +1,4 @@
--- `trace::put_bad` meets its contract, by the promise of `put_text`. Assumes nothing.
+-- `trace::put_bad` meets its contract, by the promise of `put_text`.
 use Rattle.trace.specs.Form.{badLine}
 use borrow.Author.Needs.{needs}
 use Rattle.trace.proofs.put_bad.Statement.{statement}

@@ -1,4 +1,4 @@
--- `trace::put_byte` meets its contract: one store is one byte put. Assumes nothing.
+-- `trace::put_byte` meets its contract: one store is one byte put.
 use Rattle.trace.proofs.Put.{put-one}
 use borrow.Author.Needs.{needs}
 use Rattle.trace.proofs.put_byte.Statement.{statement}

@@ -1,4 +1,4 @@
--- `trace::put_bytes` meets its contract. The invariant: the bytes passed are put; `put-more` is a turn. Assumes nothing.
+-- `trace::put_bytes` meets its contract. The invariant: the bytes passed are put; `put-more` is a turn.
 use mathlib.Core.Path.{_≡_}
 use Prim.Native.Nat.{_+_, _-_, _≤_}
 use native.Mathlib.Omega.{arith}

@@ -1,4 +1,4 @@
--- `trace::put_field` meets its contract: a tab, then at most twenty digits. Assumes nothing.
+-- `trace::put_field` meets its contract: a tab, then at most twenty digits.
 use Prim.Native.Nat.{_≤_}
 use native.Mathlib.Omega.{arith}
 use lib.ListN.{length}

@@ -1,4 +1,4 @@
--- `trace::put_short` meets its contract, by the promise of `put_text`. Assumes nothing.
+-- `trace::put_short` meets its contract, by the promise of `put_text`.
 use Rattle.trace.specs.Form.{shortLine}
 use borrow.Author.Needs.{needs}
 use Rattle.trace.proofs.put_short.Statement.{statement}

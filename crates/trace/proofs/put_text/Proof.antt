@@ -1,9 +1,10 @@
--- `trace::put_text` meets its contract: each part ends where the next begins, and each number takes at most twenty-one places. Assumes nothing.
+-- `trace::put_text` meets its contract: each part ends where the next begins, and each number takes a field.
 use mathlib.Core.List.{List}
 use mathlib.Core.Path.{_≡_, _∙_}
-use Prim.Native.Nat.{ℕ, _+_, _≤_}
+use Prim.Native.Nat.{ℕ, _+_, _*_, _≤_}
 use native.Mathlib.Omega.{arith}
 use lib.ListN.{length}
+use Rattle.trace.specs.Bounds.{longestField}
 use Rattle.trace.proofs.Decimal.{at-most-twenty}
 use Rattle.trace.proofs.Put.{put-row}
 use borrow.Author.Needs.{needs}
@@ -17,19 +18,19 @@ Ends s place now k = (place ≤ s .args .at + length (s .args .letters .now) + k
 word-ends : (c : tie.After-put-bytes) → Ends (c .before .before .before .before) (c .put-bytes .result) (c .put-bytes .last .0) 0
 word-ends c = (omega (arith, c .put-bytes .ensures .next), c .put-bytes .kept .0)
 
-first-ends : (c : tie.After-put-field) → Ends (c .before .before .before .before .before .before .before .before) (c .put-field .result) (c .put-field .last .0) 21
+first-ends : (c : tie.After-put-field) → Ends (c .before .before .before .before .before .before .before .before) (c .put-field .result) (c .put-field .last .0) longestField
 first-ends c =
     let s = c .before .before .before .before .before .before .before .before in
     let e = word-ends (c .before .before .before .before) in
     (omega (arith, c .put-field .ensures .next, at-most-twenty (s .args .first) (s .fits .first .fits), e .0), c .put-field .kept .0 ∙ e .1)
 
-second-ends : (c : tie.After-put-field2) → Ends (c .before .before .before .before .before .before .before .before .before .before .before .before) (c .put-field2 .result) (c .put-field2 .last .0) 42
+second-ends : (c : tie.After-put-field2) → Ends (c .before .before .before .before .before .before .before .before .before .before .before .before) (c .put-field2 .result) (c .put-field2 .last .0) (2 * longestField)
 second-ends c =
     let s = c .before .before .before .before .before .before .before .before .before .before .before .before in
     let e = first-ends (c .before .before .before .before) in
     (omega (arith, c .put-field2 .ensures .next, at-most-twenty (s .args .second) (s .fits .second .fits), e .0), c .put-field2 .kept .0 ∙ e .1)
 
-third-ends : (c : tie.After-put-field3) → Ends (c .before .before .before .before .before .before .before .before .before .before .before .before .before .before .before .before) (c .put-field3 .result) (c .put-field3 .last .0) 63
+third-ends : (c : tie.After-put-field3) → Ends (c .before .before .before .before .before .before .before .before .before .before .before .before .before .before .before .before) (c .put-field3 .result) (c .put-field3 .last .0) (3 * longestField)
 third-ends c =
     let s = c .before .before .before .before .before .before .before .before .before .before .before .before .before .before .before .before in
     let e = second-ends (c .before .before .before .before) in

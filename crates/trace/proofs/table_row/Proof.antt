@@ -1,4 +1,4 @@
--- `trace::table_row` meets its contract: a number above 16 has no word. Assumes nothing.
+-- `trace::table_row` meets its contract: a number above the last kind has no word.
 use Rattle.trace.specs.Form.{word}
 use mathlib.Core.Path.{sym}
 use native.Mathlib.Omega.{arith}

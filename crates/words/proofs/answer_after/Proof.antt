@@ -1,7 +1,6 @@
 -- `words::answer_after` meets its contract: a walk of its MIR, by hand. A `Reader` that `new` returns is laid into a local, lent to `next` by a `&mut`, and taken back. All that the proof knows of `new` and of `next` is that each meets its contract.
 -- `next` asks that 'a outlives the loan, so the loan's lifetime is a new one met with 'a: its token is made of the new one's and of half of the token of 'a (`within-token`), and ended after the call (`within-end`).
 -- In a local of a body MIR erases the lifetime of the struct's type; what the struct owns doesn't say the lifetime's name.
--- Assumes nothing.
 use mathlib.Core.Path.{_≡_, refl, ap, _∙_}
 use Prim.Native.Nat.{ℕ, _<_, _^_}
 use mathlib.Core.List.{List, [], _∷_}

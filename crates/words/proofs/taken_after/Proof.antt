@@ -1,4 +1,4 @@
--- `words::taken_after` meets its contract: an answer is left exactly where `taken` is below half the length. Assumes nothing.
+-- `words::taken_after` meets its contract: an answer is left exactly where `taken` is below half the length.
 use mathlib.Core.Path.{sym}
 use native.Mathlib.Omega.{arith}
 use Rattle.words.proofs.Answers.{taken-more, taken-same}

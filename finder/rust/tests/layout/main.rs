@@ -90,7 +90,7 @@ fn the_state_is_read() {
     }
 }
 
-/// A stopped pool needs its counts within the ceilings, and no more.
+/// Of a stopped pool only the counts are tested.
 #[test]
 fn counts_are_read() {
     for shape in &SHAPES {
@@ -294,7 +294,7 @@ fn mallocs_take_holes() {
     );
 }
 
-/// Document 01's session, A to F, after which every table but the free regions has an entry.
+/// The session of docs/RULES.md 9, A to F, after which every table but the free regions has an entry.
 #[test]
 fn calls_write_every_table() {
     let mut desk = Desk::new();

@@ -1,12 +1,13 @@
--- `calls::Pool::close` meets its contract: what its steps leave of the pool as it stands, or what is said of any other pool. Assumes nothing.
+-- `calls::Pool::close` meets its contract: what its steps leave of the pool as it stands, or what is said of any other pool.
 use mathlib.Core.Path.{_≡_, sym, _∙_}
 use Prim.Native.Nat.{_/_}
+use native.Mathlib.Omega.{arith}
 use borrow.Author.Needs.{needs}
 use lib.ListN.{length}
 use Rattle.tables.specs.Values.{opened, atEntry, poolOf}
-use Rattle.pools.specs.Entering.{Admitted, Stands}
-use Rattle.pools.proofs.Reading.{read-same}
-use Rattle.pools.proofs.Entering.{is-ready}
+use Rattle.pool_entry.specs.Promises.{Admitted, Stands}
+use Rattle.pool_entry.proofs.Reading.{read-same}
+use Rattle.pool_entry.proofs.Entering.{is-ready}
 use Rattle.calls.proofs.Reading.{stands-read, read-tables}
 use Rattle.calls.proofs.Left.{long}
 use Rattle.calls.proofs.Closing.{close-goes, closes-short, closes-done}
@@ -46,7 +47,7 @@ close-steps-requires : tie.Need-close-steps-requires
 close-steps-requires c κs =
     let b = c .before in
     let k = standing (b .before .before) .kept in
-    (record { zombies = k .zombies; pages = k .pages; roots = k .roots }, long (start b .args .log .now) (admitted b .log))
+    (record { zombies = k .zombies; pages = k .pages; roots = k .roots }, omega (arith, long (start b .args .log .now) (admitted b .log)))
 
 enum-told : tie.Need-enum-told
 enum-told c = search needs

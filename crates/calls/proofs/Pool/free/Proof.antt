@@ -1,15 +1,14 @@
--- `calls::Pool::free` meets its contract: refused by the search, what its steps leave of the pool as it stands, or what is said of any other pool. Assumes
--- nothing.
+-- `calls::Pool::free` meets its contract: refused by the search, what its steps leave of the pool as it stands, or what is said of any other pool.
 use mathlib.Core.Path.{_≡_, refl, sym, _∙_}
 use Prim.Native.Nat.{_/_}
 use native.Mathlib.Omega.{arith}
 use borrow.Author.Needs.{needs}
 use lib.ListN.{length}
 use Rattle.tables.specs.Values.{opened, atEntry, poolOf}
-use Rattle.pools.specs.Entering.{Admitted, Stands}
-use Rattle.pools.proofs.Reading.{read-same}
-use Rattle.pools.proofs.Entering.{is-ready}
-use Rattle.free_steps.specs.Freeing.{steppedIn}
+use Rattle.pool_entry.specs.Promises.{Admitted, Stands}
+use Rattle.pool_entry.proofs.Reading.{read-same}
+use Rattle.pool_entry.proofs.Entering.{is-ready}
+use Rattle.step_free.specs.Promises.{steppedIn}
 use Rattle.calls.proofs.Reading.{stands-read}
 use Rattle.calls.proofs.Left.{replies-none, left-ran-out, left-by, long}
 use Rattle.calls.proofs.Freeing.{freeable, kept-left, free-none, free-left}

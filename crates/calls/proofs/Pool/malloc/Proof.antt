@@ -1,14 +1,13 @@
--- `calls::Pool::malloc` meets its contract: refused for its size, what its steps leave of the pool as it stands, or what is said of any other pool. Assumes
--- nothing.
+-- `calls::Pool::malloc` meets its contract: refused for its size, what its steps leave of the pool as it stands, or what is said of any other pool.
 use mathlib.Core.Path.{_≡_, sym, _∙_}
 use Prim.Native.Nat.{_/_}
 use native.Mathlib.Omega.{arith}
 use borrow.Author.Needs.{needs}
 use lib.ListN.{length}
 use Rattle.tables.specs.Values.{opened, atEntry, poolOf}
-use Rattle.pools.specs.Entering.{Admitted, Stands}
-use Rattle.pools.proofs.Reading.{read-same}
-use Rattle.pools.proofs.Entering.{is-ready}
+use Rattle.pool_entry.specs.Promises.{Admitted, Stands}
+use Rattle.pool_entry.proofs.Reading.{read-same}
+use Rattle.pool_entry.proofs.Entering.{is-ready}
 use Rattle.calls.proofs.Reading.{stands-read, read-tables}
 use Rattle.calls.proofs.Left.{replies-none, replies-left, long}
 use Rattle.calls.proofs.Mallocking.{page-some, spans-few, mallocable, malloc-refused, malloc-goes}
@@ -75,7 +74,7 @@ malloc-steps-requires c κs =
     let b = z .before .before in
     let a = start b .args in
     let e = sym (z .size-refused .ensures) ∙ g .enum-told .given .1 in
-    (mallocable (a .self .value) _ (admitted b) (a .bytes) e _ (read b), long (a .log .now) (admitted b .log))
+    (mallocable (a .self .value) _ (admitted b) (a .bytes) e _ (read b), omega (arith, long (a .log .now) (admitted b .log)))
 
 leave-requires : tie.Need-leave-requires
 leave-requires c κs = search needs

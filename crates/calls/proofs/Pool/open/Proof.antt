@@ -1,10 +1,10 @@
--- `calls::Pool::open` meets its contract: refused, or what its steps leave. Assumes nothing.
+-- `calls::Pool::open` meets its contract: refused, or what its steps leave.
 use mathlib.Core.Path.{_≡_, sym, _∙_}
 use Prim.Native.Nat.{_/_}
+use native.Mathlib.Omega.{arith}
 use borrow.Author.Needs.{needs}
 use lib.ListN.{length}
 use Rattle.tables.specs.Values.{opened, noTables}
-use Rattle.tables.specs.HandsBack.{refused}
 use Rattle.tables.proofs.Packs.{tables-pool}
 use Rattle.driving.specs.declared.Ended.the-variants.{On}
 use Rattle.calls.specs.Refusing.{openRefused}
@@ -31,8 +31,8 @@ enum-told c = search needs
 enum-told-2 : tie.Need-enum-told-2
 enum-told-2 c = search needs
 
-closed-pool-requires : tie.Need-closed-pool-requires
-closed-pool-requires c κs = search needs
+closed-requires : tie.Need-closed-requires
+closed-requires c κs = search needs
 
 refuse-requires : tie.Need-refuse-requires
 refuse-requires c κs = search needs
@@ -42,7 +42,7 @@ returns c =
     let v = c .before .before .before .before in
     let a = at-entry v .args in
     let e = c .before .before .enum-told2 .given .1 in
-    let q = c .before .closed-pool in
+    let q = c .before .closed in
     replies-none _ (record { value = q .result }) _
     (open-refused (a .granularity) (a .override-size) (a .va-size) (a .initial-pages) (a .initial-stream) _ _ _ (sym (v .open-refused .ensures) ∙ e) (q .result) (q .ensures))
     (c .refuse .ensures .stops _ e)
@@ -58,7 +58,10 @@ open-steps-requires c κs =
     let u = d .page-size .ensures in
     let room = length (a .log .now) / 4 in (
       open-configured (a .granularity) (a .override-size) (a .va-size) (a .initial-pages) (a .initial-stream) (a .answers .now) room e _ u,
-      long (a .log .now) (open-room (a .granularity) (a .override-size) (a .va-size) (a .initial-pages) (a .initial-stream) (a .answers .now) room e _ u),
+      omega (
+        arith,
+        long (a .log .now) (open-room (a .granularity) (a .override-size) (a .va-size) (a .initial-pages) (a .initial-stream) (a .answers .now) room e _ u),
+      ),
     )
 
 leave-opened-requires : tie.Need-leave-opened-requires
@@ -85,7 +88,7 @@ open-spec =
     open-refused-requires
     enum-told
     enum-told-2
-    closed-pool-requires
+    closed-requires
     refuse-requires
     returns
     page-size-requires

@@ -1,4 +1,4 @@
--- `calls::leaving::leave` meets its contract: as at entry for 17, else by the state. Assumes nothing.
+-- `calls::leaving::leave` meets its contract: as at entry for 17, else by the state.
 use mathlib.Core.Path.{ap, sym, _∙_}
 use borrow.Author.Needs.{needs}
 use Rattle.calls.proofs.States.{is-short}

@@ -1,4 +1,4 @@
--- `calls::leaving::leave_opened` meets its contract: closed for 17 or no root, else by the state. Assumes nothing.
+-- `calls::leaving::leave_opened` meets its contract: closed for 17 or no root, else by the state.
 use mathlib.Core.Path.{_≡_, ap, sym, _∙_}
 use mathlib.Core.Bool.{false, cond}
 use borrow.Author.Needs.{needs}
@@ -14,8 +14,8 @@ use Rattle.calls.proofs.leaving.leave_opened.Tie as tie
 opened-after-requires : tie.Need-opened-after-requires
 opened-after-requires c κs = search needs
 
-closed-pool-requires : tie.Need-closed-pool-requires
-closed-pool-requires c κs = search needs
+closed-requires : tie.Need-closed-requires
+closed-requires c κs = search needs
 
 all-but-one-requires : tie.Need-all-but-one-requires
 all-but-one-requires c κs = search needs
@@ -26,7 +26,7 @@ returns c =
     let s = v .before .args .stepped in
     let e = is-short-open (s .outcome) (sym (v .opened-after .ensures) ∙ c .before .before .if1 .taken) in
     (λ i. record {
-      pool = record { value = c .before .closed-pool .ensures i };
+      pool = record { value = c .before .closed .ensures i };
       outcome = s .outcome;
       records = s .made;
       taken = c .all-but-one .ensures i;
@@ -39,15 +39,15 @@ left-open : (c : tie.Else1) →
     (is 17 o ≡ false) × (openedAfter o ≡ cond (is 0 o) opened stopped)
 left-open c = is-left-open (c .before .before .args .stepped .outcome) (λ h. c .if1 .left (c .before .opened-after .ensures ∙ h))
 
-closed-pool-requires-2 : tie.Need-closed-pool-requires-2
-closed-pool-requires-2 c κs = search needs
+closed-requires-2 : tie.Need-closed-requires-2
+closed-requires-2 c κs = search needs
 
 returns-2 : tie.Need-returns-2
 returns-2 c =
     let d = c .before in
     let v = d .before .before .before .before in
     let s = v .before .args .stepped in
-    ap (λ q. record { pool = record { value = q }; outcome = s .outcome; records = s .made; taken = s .made }) (c .closed-pool2 .ensures)
+    ap (λ q. record { pool = record { value = q }; outcome = s .outcome; records = s .made; taken = s .made }) (c .closed2 .ensures)
     ∙ sym (opened-none s (left-open (d .before .before .before) .0) (v .before .pre) (d .if2 .taken))
 
 returns-3 : tie.Need-returns-3
@@ -65,9 +65,9 @@ leave-opened-spec =
     tie.close
     (tie.spec
     opened-after-requires
-    closed-pool-requires
+    closed-requires
     all-but-one-requires
     returns
-    closed-pool-requires-2
+    closed-requires-2
     returns-2
     returns-3)

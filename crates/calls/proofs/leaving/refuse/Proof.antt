@@ -1,9 +1,9 @@
--- `calls::leaving::refuse` meets its contract, by how the entry ended. Assumes nothing.
+-- `calls::leaving::refuse` meets its contract, by how the entry ended.
 use mathlib.Core.Path.{ap, sym, _∙_}
 use borrow.Author.Needs.{needs}
 use Rattle.tables.specs.HandsBack.{refused}
 use Rattle.driving.proofs.Endings.{not-on, ends-once}
-use Rattle.calls.specs.Replies.{called}
+use Rattle.calls.specs.Promises.{called}
 use Rattle.calls.proofs.Left.{refused-is}
 use Rattle.calls.proofs.leaving.refuse.Statement.{statement}
 use Rattle.calls.proofs.leaving.refuse.Tie as tie

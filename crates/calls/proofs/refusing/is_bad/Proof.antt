@@ -1,8 +1,9 @@
--- `calls::refusing::is_bad` meets its contract: each return rewrites with the tests that led there. Assumes nothing.
+-- `calls::refusing::is_bad` meets its contract: each return rewrites with the tests that led there.
 use mathlib.Core.Path.{_≡_, ap, sym, _∙_}
 use native.Mathlib.Omega.{arith}
 use borrow.Author.Needs.{needs}
 use borrow.Author.Tests.{eq-eqb, ne-eqb, lt-ltb, le-ltb, not-true, not-false}
+use Rattle.tables.specs.Bounds.{PAGES}
 use Rattle.tables.specs.WellFormed.{allowed}
 use Rattle.tables.specs.Open.{pageSize, badConfiguration}
 use Rattle.calls.proofs.Opening.{initial-fits}
@@ -42,7 +43,7 @@ returns-4 : tie.Need-returns-4
 unfolding badConfiguration
 returns-4 c =
     let v = c .before .before .before .before in
-    rw (ne-eqb _ 0 (v .before .if1 .left), eq-eqb _ 0 (v .if2 .left), allowed-is (c .before .before) ∙ not-false _ (c .before .if3 .left), lt-ltb 256 _ (c .if4 .taken))
+    rw (ne-eqb _ 0 (v .before .if1 .left), eq-eqb _ 0 (v .if2 .left), allowed-is (c .before .before) ∙ not-false _ (c .before .if3 .left), lt-ltb PAGES _ (c .if4 .taken))
 
 mul-result : tie.Need-mul-result
 mul-result c =
@@ -54,7 +55,7 @@ returns-5 : tie.Need-returns-5
 unfolding badConfiguration
 returns-5 c =
     let v = c .before .before .before .before in
-    rw (ne-eqb _ 0 (v .before .if1 .left), eq-eqb _ 0 (v .if2 .left), allowed-is (c .before .before) ∙ not-false _ (c .before .if3 .left), le-ltb 256 _ (c .if4 .left), c .before .before .before .page-size .ensures)
+    rw (ne-eqb _ 0 (v .before .if1 .left), eq-eqb _ 0 (v .if2 .left), allowed-is (c .before .before) ∙ not-false _ (c .before .if3 .left), le-ltb PAGES _ (c .if4 .left), c .before .before .before .page-size .ensures)
 
 pub is-bad-spec : {M : Type 1} → statement M
 is-bad-spec =

@@ -1,4 +1,4 @@
--- `calls::refusing::page_size` meets its contract, by the test. Assumes nothing.
+-- `calls::refusing::page_size` meets its contract, by the test.
 use borrow.Author.Tests.{eq-eqb, ne-eqb}
 use Rattle.calls.proofs.refusing.page_size.Statement.{statement}
 use Rattle.calls.proofs.refusing.page_size.Tie as tie

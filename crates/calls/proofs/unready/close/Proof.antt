@@ -1,4 +1,5 @@
--- `calls::unready::close` meets its contract: refused at entry, or what its steps leave. Assumes nothing.
+-- `calls::unready::close` meets its contract: refused at entry, or what its steps leave.
+use native.Mathlib.Omega.{arith}
 use borrow.Author.Needs.{needs}
 use Rattle.calls.proofs.Reading.{ceilings-of, read-kept, read-tables}
 use Rattle.calls.proofs.Left.{replies-none, long}
@@ -46,7 +47,7 @@ close-steps-requires c κs =
     let a = at-entry v .args in
     let g = v .enter-close .ensures .goes (b .enum-told .given .1) in
     let k = read-kept (a .pool .value) _ _ (q .in-order .ensures) (g .0) in
-    (record { zombies = k .zombies; pages = k .pages; roots = k .roots }, long (a .log .now) (g .1))
+    (record { zombies = k .zombies; pages = k .pages; roots = k .roots }, omega (arith, long (a .log .now) (g .1)))
 
 enum-told-3 : tie.Need-enum-told-3
 enum-told-3 c = search needs

@@ -1,4 +1,4 @@
--- `calls::unready::free` meets its contract: refused at entry or by the search, or what its steps leave. Assumes nothing.
+-- `calls::unready::free` meets its contract: refused at entry or by the search, or what its steps leave.
 use mathlib.Core.Path.{_≡_, refl}
 use Prim.Native.Nat.{_/_}
 use lib.ListN.{length}
@@ -7,7 +7,7 @@ use borrow.Author.Needs.{needs}
 use Rattle.tables.specs.Values.{opened, atEntry, poolOf}
 use Rattle.tables.specs.Free.{free}
 use Rattle.tables.specs.declared.Pool.{Pool}
-use Rattle.pools.specs.Entering.{Admitted}
+use Rattle.pool_entry.specs.Promises.{Admitted}
 use Rattle.calls.proofs.Reading.{ceilings-of, read-opened, read-kept}
 use Rattle.calls.proofs.Left.{replies-none, long}
 use Rattle.calls.proofs.Freeing.{freeable, kept-left, free-none, free-left}

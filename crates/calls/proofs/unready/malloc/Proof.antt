@@ -1,11 +1,11 @@
--- `calls::unready::malloc` meets its contract: refused at entry or for its size, or what its steps leave. Assumes nothing.
+-- `calls::unready::malloc` meets its contract: refused at entry or for its size, or what its steps leave.
 use mathlib.Core.Path.{sym, _∙_}
 use Prim.Native.Nat.{_/_}
 use native.Mathlib.Omega.{arith}
 use borrow.Author.Needs.{needs}
 use lib.ListN.{length}
 use Rattle.tables.specs.Malloc.{mallocBy}
-use Rattle.pools.specs.Entering.{Admitted}
+use Rattle.pool_entry.specs.Promises.{Admitted}
 use Rattle.calls.proofs.Reading.{ceilings-of, read-opened, read-tables}
 use Rattle.calls.proofs.Left.{replies-none, replies-left, long}
 use Rattle.calls.proofs.Mallocking.{page-some, spans-few, mallocable, malloc-refused, malloc-goes}
@@ -78,7 +78,7 @@ malloc-steps-requires c κs =
     let k = admitted b in
     let a = at-entry (entered b) .args in
     let e = sym (z .size-refused .ensures) ∙ g .enum-told3 .given .1 in
-    (mallocable (a .pool .value) _ k (a .bytes) e _ (read-opened (a .pool .value) _ (k .state) (q .in-order .ensures)), long (a .log .now) (k .log))
+    (mallocable (a .pool .value) _ k (a .bytes) e _ (read-opened (a .pool .value) _ (k .state) (q .in-order .ensures)), omega (arith, long (a .log .now) (k .log)))
 
 leave-requires : tie.Need-leave-requires
 leave-requires c κs = search needs

@@ -1,4 +1,4 @@
--- `judge_steps::lines::end_live` meets its contract, call by call. Assumes nothing.
+-- `judge_steps::lines::end_live` meets its contract, call by call.
 use borrow.Author.Needs.{needs}
 use mathlib.Core.Path.{ap, sym, _∙_}
 use Rattle.judge_steps.specs.State.{withoutLive}

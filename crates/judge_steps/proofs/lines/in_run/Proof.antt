@@ -1,4 +1,4 @@
--- `judge_steps::lines::in_run` meets its contract, by cases of its tests. Assumes nothing.
+-- `judge_steps::lines::in_run` meets its contract, by cases of its tests.
 use borrow.Author.Tests.{not-true, not-false}
 use Rattle.judge_steps.proofs.lines.in_run.Statement.{statement}
 use Rattle.judge_steps.proofs.lines.in_run.Tie as tie

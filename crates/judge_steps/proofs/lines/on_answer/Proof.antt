@@ -1,8 +1,8 @@
--- `judge_steps::lines::on_answer` meets its contract, call by call. Assumes nothing.
+-- `judge_steps::lines::on_answer` meets its contract, call by call.
 use borrow.Author.Needs.{needs}
 use mathlib.Core.Path.{refl, ap, sym, _∙_}
-use Rattle.judging.specs.Verdict.{on, answered}
-use Rattle.judge_steps.specs.State.{judgeOf, withRun}
+use Rattle.judge_rules.specs.Verdict.{on, answered}
+use Rattle.judge_steps.specs.State.{lent, judgeOf, withRun}
 use Rattle.judge_steps.proofs.lines.on_answer.Statement.{statement}
 use Rattle.judge_steps.proofs.lines.on_answer.Tie as tie
 
@@ -39,7 +39,9 @@ returns c =
     let q = c .before .before in
     let v = q .before .before .before .before .args in
     let e = sym (c .enum-told .given .1) ∙ q .call-of .ensures in
-    λ x h. refl ∙ ap (λ w. answered w (judgeOf (v .s) x h (v .mapped .now) (v .live .now)) (v .a) (v .b)) e
+    λ x h.
+    let ts = lent x h (v .mapped .now) (v .live .now) in
+    refl ∙ ap (λ w. answered w (judgeOf (v .s) ts) (v .a) (v .b)) e
 
 same-length : tie.Need-same-length
 same-length c = search needs
@@ -50,7 +52,9 @@ returns-2 c =
     let q = c .before .before .before .before .before .before in
     let v = q .before .before .before .before .args in
     let e = sym (c .before .before .before .before .enum-told2 .given .1) ∙ q .call-of .ensures in
-    λ x h. c .before .before .on-malloc .ensures x h ∙ ap (λ w. answered w (judgeOf (v .s) x h (v .mapped .now) (v .live .now)) (v .a) (v .b)) e
+    λ x h.
+    let ts = lent x h (v .mapped .now) (v .live .now) in
+    c .before .before .on-malloc .ensures x h ∙ ap (λ w. answered w (judgeOf (v .s) ts) (v .a) (v .b)) e
 
 same-length-2 : tie.Need-same-length-2
 same-length-2 c = search needs
@@ -61,7 +65,9 @@ returns-3 c =
     let q = c .before .before .before .before .before .before in
     let v = q .before .before .before .before .args in
     let e = sym (c .before .before .before .before .enum-told3 .given .1) ∙ q .call-of .ensures in
-    λ x h. c .before .before .on-free .ensures x h (v .mapped .now) ∙ ap (λ w. answered w (judgeOf (v .s) x h (v .mapped .now) (v .live .now)) (v .a) (v .b)) e
+    λ x h.
+    let ts = lent x h (v .mapped .now) (v .live .now) in
+    c .before .before .on-free .ensures x h (v .mapped .now) ∙ ap (λ w. answered w (judgeOf (v .s) ts) (v .a) (v .b)) e
 
 returns-4 : tie.Need-returns-4
 unfolding answered judgeOf
@@ -69,7 +75,9 @@ returns-4 c =
     let q = c .before .before .before .before in
     let v = q .before .before .before .before .args in
     let e = sym (c .before .before .enum-told4 .given .1) ∙ q .call-of .ensures in
-    λ x h. ap (λ z. on (judgeOf z x h (v .mapped .now) (v .live .now))) (c .with-run .ensures ∙ ap (λ r. withRun (v .s) r) (c .before .run-at .ensures)) ∙ ap (λ w. answered w (judgeOf (v .s) x h (v .mapped .now) (v .live .now)) (v .a) (v .b)) e
+    λ x h.
+    let ts = lent x h (v .mapped .now) (v .live .now) in
+    ap (λ z. on (judgeOf z ts)) (c .with-run .ensures ∙ ap (λ r. withRun (v .s) r) (c .before .run-at .ensures)) ∙ ap (λ w. answered w (judgeOf (v .s) ts) (v .a) (v .b)) e
 
 pub on-answer-spec : {M : Type 1} → statement M
 on-answer-spec =

@@ -1,4 +1,4 @@
--- `judge_steps::lines::on_call` meets its contract. Assumes nothing.
+-- `judge_steps::lines::on_call` meets its contract.
 use borrow.Author.Needs.{needs}
 use mathlib.Core.Path.{_∙_}
 use Rattle.judge_steps.proofs.lines.on_call.Statement.{statement}

@@ -1,10 +1,10 @@
--- `judge_steps::lines::said_of` meets its contract, number by number. Assumes nothing.
+-- `judge_steps::lines::said_of` meets its contract, number by number.
 use Prim.Native.Nat.{_≤_}
 use native.Mathlib.Omega.{arith}
 use mathlib.Core.Logic.{inl, inr, ⊎-elim}
 use Rattle.lists.proofs.Tests.{cases-eq}
-use Rattle.judging.specs.Said.{said}
-use Rattle.judge_steps.proofs.Running.{said-none, next-up}
+use Rattle.judge_rules.specs.Said.{said}
+use Rattle.judge_steps.proofs.StepsByKind.{said-none, next-up}
 use Rattle.judge_steps.proofs.lines.said_of.Statement.{statement}
 use Rattle.judge_steps.proofs.lines.said_of.Tie as tie
 

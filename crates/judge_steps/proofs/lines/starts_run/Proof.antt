@@ -1,8 +1,8 @@
--- `judge_steps::lines::starts_run` meets its contract, by cases of its tests. Assumes nothing.
+-- `judge_steps::lines::starts_run` meets its contract, by cases of its tests.
 use borrow.Author.Needs.{needs}
 use mathlib.Core.Path.{ap, sym, _∙_}
 use Rattle.judge_steps.specs.State.{startsRun}
-use Rattle.judge_steps.proofs.Running.{starts-waiting, starts-again, starts-first, starts-other}
+use Rattle.judge_steps.proofs.StepsByKind.{starts-waiting, starts-again, starts-first, starts-other}
 use Rattle.judge_steps.proofs.lines.starts_run.Statement.{statement}
 use Rattle.judge_steps.proofs.lines.starts_run.Tie as tie
 

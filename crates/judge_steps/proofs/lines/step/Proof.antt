@@ -1,9 +1,9 @@
--- `judge_steps::lines::step` meets its contract, kind by kind. Assumes nothing.
+-- `judge_steps::lines::step` meets its contract, kind by kind.
 use borrow.Author.Needs.{needs}
 use mathlib.Core.Path.{ap, sym, _∙_}
-use Rattle.judging.specs.Verdict.{judged}
-use Rattle.judge_steps.specs.State.{judgeOf, stepOf}
-use Rattle.judge_steps.proofs.Running.{unknown-refused}
+use Rattle.judge_rules.specs.Verdict.{judged}
+use Rattle.judge_steps.specs.State.{lent, judgeOf, stepOf}
+use Rattle.judge_steps.proofs.StepsByKind.{unknown-refused}
 use Rattle.judge_steps.proofs.lines.step.Statement.{statement}
 use Rattle.judge_steps.proofs.lines.step.Tie as tie
 
@@ -28,7 +28,7 @@ enum-told c = search needs
 step-result-requires : tie.Need-step-result-requires
 step-result-requires c κs =
     let st = c .before .before .before .before .before .before .before .before .before in
-    (st .pre .page, (st .pre .mapped-room, st .pre .live-room))
+    (st .pre .page, (st .pre .tables .mapped, st .pre .tables .live))
 
 enum-told-2 : tie.Need-enum-told-2
 enum-told-2 c = search needs
@@ -52,13 +52,15 @@ returns : tie.Need-returns
 returns c =
     let q = c .before .before .before .before .before .before .before .before .before .before .before .before .before .before .before .before in
     let v = q .before .before .before .before .before .args in
-    c .before .before .before .before .before .before .before .before .step-record .ensures ∙ ap (λ w. judged w (judgeOf (v .s) (v .reservations .now) (v .held .now) (v .mapped .now) (v .live .now)) (v .l)) (sym (c .before .before .before .before .before .before .before .before .before .before .before .before .before .before .what .given .1) ∙ q .said-of .ensures)
+    let ts = lent (v .reservations .now) (v .held .now) (v .mapped .now) (v .live .now) in
+    c .before .before .before .before .before .before .before .before .step-record .ensures ∙ ap (λ w. judged w (judgeOf (v .s) ts) (v .l)) (sym (c .before .before .before .before .before .before .before .before .before .before .before .before .before .before .what .given .1) ∙ q .said-of .ensures)
 
 returns-2 : tie.Need-returns-2
 returns-2 c =
     let q = c .before .before .before .before in
     let v = q .before .before .before .before .before .args in
-    c .step-call .ensures (v .reservations .now) (v .held .now) (v .mapped .now) (v .live .now) ∙ ap (λ w. judged w (judgeOf (v .s) (v .reservations .now) (v .held .now) (v .mapped .now) (v .live .now)) (v .l)) (sym (c .before .before .what2 .given .1) ∙ q .said-of .ensures)
+    let ts = lent (v .reservations .now) (v .held .now) (v .mapped .now) (v .live .now) in
+    c .step-call .ensures ts ∙ ap (λ w. judged w (judgeOf (v .s) ts) (v .l)) (sym (c .before .before .what2 .given .1) ∙ q .said-of .ensures)
 
 same-length-5 : tie.Need-same-length-5
 same-length-5 c = search needs
@@ -70,13 +72,15 @@ returns-3 : tie.Need-returns-3
 returns-3 c =
     let q = c .before .before .before .before .before .before .before in
     let v = q .before .before .before .before .before .args in
-    c .before .before .step-result .ensures (v .reservations .now) (v .held .now) ∙ ap (λ w. judged w (judgeOf (v .s) (v .reservations .now) (v .held .now) (v .mapped .now) (v .live .now)) (v .l)) (sym (c .before .before .before .before .before .enum-told .given .1) ∙ q .said-of .ensures)
+    let ts = lent (v .reservations .now) (v .held .now) (v .mapped .now) (v .live .now) in
+    c .before .before .step-result .ensures (v .reservations .now) (v .held .now) ∙ ap (λ w. judged w (judgeOf (v .s) ts) (v .l)) (sym (c .before .before .before .before .before .enum-told .given .1) ∙ q .said-of .ensures)
 
 returns-4 : tie.Need-returns-4
 returns-4 c =
     let q = c .before .before .before in
     let v = q .before .before .before .before .before .args in
-    ap (λ z. stepOf z (v .reservations .now) (v .held .now) (v .mapped .now) (v .live .now)) (c .broken .ensures) ∙ unknown-refused (v .s) (v .reservations .now) (v .held .now) (v .mapped .now) (v .live .now) (v .l) ∙ ap (λ w. judged w (judgeOf (v .s) (v .reservations .now) (v .held .now) (v .mapped .now) (v .live .now)) (v .l)) (sym (c .before .enum-told2 .given .1) ∙ q .said-of .ensures)
+    let ts = lent (v .reservations .now) (v .held .now) (v .mapped .now) (v .live .now) in
+    ap (λ z. stepOf z ts) (c .broken .ensures) ∙ unknown-refused (v .s) ts (v .l) ∙ ap (λ w. judged w (judgeOf (v .s) ts) (v .l)) (sym (c .before .enum-told2 .given .1) ∙ q .said-of .ensures)
 
 pub step-spec : {M : Type 1} → statement M
 step-spec =

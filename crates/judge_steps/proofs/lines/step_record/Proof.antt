@@ -1,10 +1,10 @@
--- `judge_steps::lines::step_record` meets its contract: refused by R0, without effect, or as its word has it. Assumes nothing.
+-- `judge_steps::lines::step_record` meets its contract: refused by R0, without effect, or as its word has it.
 use borrow.Author.Needs.{needs}
 use mathlib.Core.Path.{ap, sym, _∙_}
 use borrow.Author.Tests.{not-true, not-false}
-use Rattle.judging.specs.Verdict.{on, recorded}
-use Rattle.judge_steps.specs.State.{judgeOf, stepOf}
-use Rattle.judge_steps.proofs.Running.{record-refused, record-failed, record-done, ready-ended}
+use Rattle.judge_rules.specs.Verdict.{on, recorded}
+use Rattle.judge_steps.specs.State.{lent, judgeOf, stepOf}
+use Rattle.judge_steps.proofs.StepsByKind.{record-refused, record-failed, record-done, ready-ended}
 use Rattle.judge_steps.proofs.lines.step_record.Statement.{statement}
 use Rattle.judge_steps.proofs.lines.step_record.Tie as tie
 
@@ -18,7 +18,8 @@ returns : tie.Need-returns
 returns c =
     let r = c .before .before in
     let v = r .before .before .before .before .before .args in
-    ap (λ z. stepOf z (v .reservations .now) (v .held .now) (v .mapped .now) (v .live .now)) (c .broken .ensures) ∙ record-refused (v .s) (v .reservations .now) (v .held .now) (v .mapped .now) (v .live .now) (v .l) (v .word) (sym (r .in-run .ensures) ∙ not-true (r .in-run .result) (c .before .if1 .taken))
+    let ts = lent (v .reservations .now) (v .held .now) (v .mapped .now) (v .live .now) in
+    ap (λ z. stepOf z ts) (c .broken .ensures) ∙ record-refused (v .s) ts (v .l) (v .word) (sym (r .in-run .ensures) ∙ not-true (r .in-run .result) (c .before .if1 .taken))
 
 end-live-requires : tie.Need-end-live-requires
 end-live-requires c κs = search needs
@@ -28,7 +29,8 @@ returns-2 c =
     let e = c .before .before in
     let r = e .before .before in
     let v = r .before .before .before .before .before .args in
-    ap (λ z. on (judgeOf z (v .reservations .now) (v .held .now) (v .mapped .now) (v .live .now))) (e .end-live .ensures) ∙ record-failed (v .s) (v .reservations .now) (v .held .now) (v .mapped .now) (v .live .now) (v .l) (v .word) (sym (r .in-run .ensures) ∙ not-false (r .in-run .result) (e .before .if1 .left)) (c .if2 .taken)
+    let ts = lent (v .reservations .now) (v .held .now) (v .mapped .now) (v .live .now) in
+    ap (λ z. on (judgeOf z ts)) (e .end-live .ensures) ∙ record-failed (v .s) ts (v .l) (v .word) (sym (r .in-run .ensures) ∙ not-false (r .in-run .result) (e .before .if1 .left)) (c .if2 .taken)
 
 on-record-requires : tie.Need-on-record-requires
 on-record-requires c κs =
@@ -36,7 +38,8 @@ on-record-requires c κs =
     let r = e .before .before in
     let st = r .before .before .before .before .before in
     let v = st .args in
-    ready-ended (v .s) (v .reservations .now) (v .held .now) (v .mapped .now) (v .live .now) (v .l) (e .end-live .result) (e .end-live .ensures) (sym (r .in-run .ensures) ∙ not-false (r .in-run .result) (e .before .if1 .left)) (st .pre)
+    let ts = lent (v .reservations .now) (v .held .now) (v .mapped .now) (v .live .now) in
+    ready-ended (v .s) ts (v .l) (e .end-live .result) (e .end-live .ensures) (sym (r .in-run .ensures) ∙ not-false (r .in-run .result) (e .before .if1 .left)) (st .pre)
 
 same-length : tie.Need-same-length
 same-length c = search needs
@@ -56,7 +59,8 @@ returns-3 c =
     let e = o .before .before .before .before .before .before .before in
     let r = e .before .before in
     let v = r .before .before .before .before .before .args in
-    o .on-record .ensures ∙ ap (λ z. recorded (v .word) (judgeOf z (v .reservations .now) (v .held .now) (v .mapped .now) (v .live .now)) (v .l .first) (v .l .second)) (e .end-live .ensures) ∙ record-done (v .s) (v .reservations .now) (v .held .now) (v .mapped .now) (v .live .now) (v .l) (v .word) (sym (r .in-run .ensures) ∙ not-false (r .in-run .result) (e .before .if1 .left)) (o .before .before .before .before .before .if2 .left)
+    let ts = lent (v .reservations .now) (v .held .now) (v .mapped .now) (v .live .now) in
+    o .on-record .ensures ∙ ap (λ z. recorded (v .word) (judgeOf z ts) (v .l .first) (v .l .second)) (e .end-live .ensures) ∙ record-done (v .s) ts (v .l) (v .word) (sym (r .in-run .ensures) ∙ not-false (r .in-run .result) (e .before .if1 .left)) (o .before .before .before .before .before .if2 .left)
 
 pub step-record-spec : {M : Type 1} → statement M
 step-record-spec =

@@ -1,14 +1,14 @@
--- `judge_steps::records::on_giveback` meets its contract: refused by its rule, or the rows that stay. Assumes nothing.
+-- `judge_steps::records::on_giveback` meets its contract: refused by its rule, or the rows that stay.
 use borrow.Author.Needs.{needs}
 use mathlib.Core.Path.{ap, sym, _∙_}
 use mathlib.Core.Bool.{not}
 use borrow.Author.Tests.{not-true, not-false}
 use lib.Dec.{eqb}
-use Rattle.judging.specs.Rules.{R10}
-use Rattle.judging.specs.Verdict.{on, recorded}
+use Rattle.judge_rules.specs.Rules.{R10}
+use Rattle.judge_rules.specs.Verdict.{on, recorded}
 use Rattle.judge_tables.specs.Rows.{stays}
-use Rattle.judge_steps.specs.State.{reservationOf, judgeOf}
-use Rattle.judge_steps.proofs.Steps.{refused, passed, rest, stays-one, with-reservations}
+use Rattle.judge_steps.specs.State.{reservationOf, lent, judgeOf}
+use Rattle.judge_steps.proofs.StepsByRule.{refused, passed, rest, stays-one, with-reservations}
 use Rattle.judge_steps.proofs.records.on_giveback.Statement.{statement}
 use Rattle.judge_steps.proofs.records.on_giveback.Tie as tie
 
@@ -22,7 +22,9 @@ returns : tie.Need-returns
 unfolding recorded judgeOf
 returns c =
     let v = c .before .before .before .before .before .args in
-    λ h l. refused 10 (R10 (judgeOf (v .s) (v .reservations .now) h (v .mapped .now) l) (v .base) (v .size)) _ (sym (c .before .r10 .ensures h l) ∙ not-true (c .before .r10 .result) (c .if1 .taken))
+    λ h l.
+    let ts = lent (v .reservations .now) h (v .mapped .now) l in
+    refused 10 (R10 (judgeOf (v .s) ts) (v .base) (v .size)) _ (sym (c .before .r10 .ensures h l) ∙ not-true (c .before .r10 .result) (c .if1 .taken))
 
 without-requires : tie.Need-without-requires
 without-requires c κs = search needs
@@ -37,8 +39,9 @@ returns-2 c =
     let v = r .before .before .before .before .args in
     let w = c .before .before .without in
     λ h l.
-    ap (λ z. on z) (with-reservations (v .s) (v .reservations .now) h (v .mapped .now) l (w .result) (w .last .0) _ (rest reservationOf (λ x. not (eqb (x .base) (v .base))) (stays (v .base) 1) (λ w. stays-one (v .base) (w .first)) (v .s .reservations) (w .result) (v .reservations .now) (w .last .0) (w .ensures .1)))
-    ∙ passed 10 (R10 (judgeOf (v .s) (v .reservations .now) h (v .mapped .now) l) (v .base) (v .size)) _ (sym (r .r10 .ensures h l) ∙ not-false (r .r10 .result) (c .before .before .before .before .if1 .left))
+    let ts = lent (v .reservations .now) h (v .mapped .now) l in
+    ap (λ z. on z) (with-reservations (v .s) ts (w .result) (w .last .0) _ (rest reservationOf (λ x. not (eqb (x .base) (v .base))) (stays (v .base) 1) (λ w. stays-one (v .base) (w .first)) (v .s .reservations) (w .result) (v .reservations .now) (w .last .0) (w .ensures .left)))
+    ∙ passed 10 (R10 (judgeOf (v .s) ts) (v .base) (v .size)) _ (sym (r .r10 .ensures h l) ∙ not-false (r .r10 .result) (c .before .before .before .before .if1 .left))
 
 pub on-giveback-spec : {M : Type 1} → statement M
 on-giveback-spec =

@@ -1,8 +1,8 @@
--- `judge_steps::records::on_record` meets its contract, word by word. Assumes nothing.
+-- `judge_steps::records::on_record` meets its contract, word by word.
 use borrow.Author.Needs.{needs}
 use mathlib.Core.Path.{ap, sym, _∙_}
-use Rattle.judging.specs.Verdict.{recorded}
-use Rattle.judge_steps.specs.State.{judgeOf}
+use Rattle.judge_rules.specs.Verdict.{recorded}
+use Rattle.judge_steps.specs.State.{lent, judgeOf}
 use Rattle.judge_steps.proofs.records.on_record.Statement.{statement}
 use Rattle.judge_steps.proofs.records.on_record.Tie as tie
 
@@ -76,7 +76,8 @@ returns : tie.Need-returns
 unfolding recorded
 returns c =
     let v = c .before .before .before .before .before .before .before .before .before .before .args in
-    c .before .before .on-reserve .ensures (v .held .now) (v .mapped .now) (v .live .now) ∙ ap (λ w. recorded w (judgeOf (v .s) (v .reservations .now) (v .held .now) (v .mapped .now) (v .live .now)) (v .a) (v .b)) (sym (c .before .before .before .before .enum-told .given .1))
+    let ts = lent (v .reservations .now) (v .held .now) (v .mapped .now) (v .live .now) in
+    c .before .before .on-reserve .ensures (v .held .now) (v .mapped .now) (v .live .now) ∙ ap (λ w. recorded w (judgeOf (v .s) ts) (v .a) (v .b)) (sym (c .before .before .before .before .enum-told .given .1))
 
 same-length-2 : tie.Need-same-length-2
 same-length-2 c = search needs
@@ -85,7 +86,8 @@ returns-2 : tie.Need-returns-2
 unfolding recorded
 returns-2 c =
     let v = c .before .before .before .before .before .before .before .before .before .before .args in
-    c .before .before .on-create .ensures (v .reservations .now) (v .mapped .now) (v .live .now) ∙ ap (λ w. recorded w (judgeOf (v .s) (v .reservations .now) (v .held .now) (v .mapped .now) (v .live .now)) (v .a) (v .b)) (sym (c .before .before .before .before .enum-told2 .given .1))
+    let ts = lent (v .reservations .now) (v .held .now) (v .mapped .now) (v .live .now) in
+    c .before .before .on-create .ensures (v .reservations .now) (v .mapped .now) (v .live .now) ∙ ap (λ w. recorded w (judgeOf (v .s) ts) (v .a) (v .b)) (sym (c .before .before .before .before .enum-told2 .given .1))
 
 same-length-3 : tie.Need-same-length-3
 same-length-3 c = search needs
@@ -100,7 +102,8 @@ returns-3 : tie.Need-returns-3
 unfolding recorded
 returns-3 c =
     let v = c .before .before .before .before .before .before .before .before .before .before .before .before .args in
-    c .before .before .on-map .ensures (v .live .now) ∙ ap (λ w. recorded w (judgeOf (v .s) (v .reservations .now) (v .held .now) (v .mapped .now) (v .live .now)) (v .a) (v .b)) (sym (c .before .before .before .before .before .before .enum-told3 .given .1))
+    let ts = lent (v .reservations .now) (v .held .now) (v .mapped .now) (v .live .now) in
+    c .before .before .on-map .ensures (v .live .now) ∙ ap (λ w. recorded w (judgeOf (v .s) ts) (v .a) (v .b)) (sym (c .before .before .before .before .before .before .enum-told3 .given .1))
 
 same-length-6 : tie.Need-same-length-6
 same-length-6 c = search needs
@@ -109,7 +112,8 @@ returns-4 : tie.Need-returns-4
 unfolding recorded
 returns-4 c =
     let v = c .before .before .before .before .before .before .before .before .args in
-    c .on-access .ensures (v .reservations .now) (v .held .now) (v .live .now) ∙ ap (λ w. recorded w (judgeOf (v .s) (v .reservations .now) (v .held .now) (v .mapped .now) (v .live .now)) (v .a) (v .b)) (sym (c .before .before .enum-told4 .given .1))
+    let ts = lent (v .reservations .now) (v .held .now) (v .mapped .now) (v .live .now) in
+    c .on-access .ensures (v .reservations .now) (v .held .now) (v .live .now) ∙ ap (λ w. recorded w (judgeOf (v .s) ts) (v .a) (v .b)) (sym (c .before .before .enum-told4 .given .1))
 
 same-length-7 : tie.Need-same-length-7
 same-length-7 c = search needs
@@ -121,7 +125,8 @@ returns-5 : tie.Need-returns-5
 unfolding recorded
 returns-5 c =
     let v = c .before .before .before .before .before .before .before .before .before .before .before .args in
-    c .before .before .on-unmap .ensures (v .reservations .now) (v .held .now) ∙ ap (λ w. recorded w (judgeOf (v .s) (v .reservations .now) (v .held .now) (v .mapped .now) (v .live .now)) (v .a) (v .b)) (sym (c .before .before .before .before .before .enum-told5 .given .1))
+    let ts = lent (v .reservations .now) (v .held .now) (v .mapped .now) (v .live .now) in
+    c .before .before .on-unmap .ensures (v .reservations .now) (v .held .now) ∙ ap (λ w. recorded w (judgeOf (v .s) ts) (v .a) (v .b)) (sym (c .before .before .before .before .before .enum-told5 .given .1))
 
 same-length-9 : tie.Need-same-length-9
 same-length-9 c = search needs
@@ -133,31 +138,36 @@ returns-6 : tie.Need-returns-6
 unfolding recorded
 returns-6 c =
     let v = c .before .before .before .before .before .before .before .before .before .before .before .args in
-    c .before .before .on-release .ensures (v .reservations .now) (v .live .now) ∙ ap (λ w. recorded w (judgeOf (v .s) (v .reservations .now) (v .held .now) (v .mapped .now) (v .live .now)) (v .a) (v .b)) (sym (c .before .before .before .before .before .enum-told6 .given .1))
+    let ts = lent (v .reservations .now) (v .held .now) (v .mapped .now) (v .live .now) in
+    c .before .before .on-release .ensures (v .reservations .now) (v .live .now) ∙ ap (λ w. recorded w (judgeOf (v .s) ts) (v .a) (v .b)) (sym (c .before .before .before .before .before .enum-told6 .given .1))
 
 returns-7 : tie.Need-returns-7
 unfolding recorded
 returns-7 c =
     let v = c .before .before .before .before .before .before .before .args in
-    c .on-event .ensures (v .reservations .now) (v .held .now) (v .mapped .now) (v .live .now) ∙ ap (λ w. recorded w (judgeOf (v .s) (v .reservations .now) (v .held .now) (v .mapped .now) (v .live .now)) (v .a) (v .b)) (sym (c .before .enum-told7 .given .1))
+    let ts = lent (v .reservations .now) (v .held .now) (v .mapped .now) (v .live .now) in
+    c .on-event .ensures ts ∙ ap (λ w. recorded w (judgeOf (v .s) ts) (v .a) (v .b)) (sym (c .before .enum-told7 .given .1))
 
 returns-8 : tie.Need-returns-8
 unfolding recorded
 returns-8 c =
     let v = c .before .before .before .before .before .before .before .args in
-    c .on-asked .ensures (v .reservations .now) (v .held .now) (v .mapped .now) (v .live .now) ∙ ap (λ w. recorded w (judgeOf (v .s) (v .reservations .now) (v .held .now) (v .mapped .now) (v .live .now)) (v .a) (v .b)) (sym (c .before .enum-told8 .given .1))
+    let ts = lent (v .reservations .now) (v .held .now) (v .mapped .now) (v .live .now) in
+    c .on-asked .ensures ts ∙ ap (λ w. recorded w (judgeOf (v .s) ts) (v .a) (v .b)) (sym (c .before .enum-told8 .given .1))
 
 returns-9 : tie.Need-returns-9
 unfolding recorded
 returns-9 c =
     let v = c .before .before .before .before .before .before .before .args in
-    c .on-asked2 .ensures (v .reservations .now) (v .held .now) (v .mapped .now) (v .live .now) ∙ ap (λ w. recorded w (judgeOf (v .s) (v .reservations .now) (v .held .now) (v .mapped .now) (v .live .now)) (v .a) (v .b)) (sym (c .before .enum-told9 .given .1))
+    let ts = lent (v .reservations .now) (v .held .now) (v .mapped .now) (v .live .now) in
+    c .on-asked2 .ensures ts ∙ ap (λ w. recorded w (judgeOf (v .s) ts) (v .a) (v .b)) (sym (c .before .enum-told9 .given .1))
 
 returns-10 : tie.Need-returns-10
 unfolding recorded
 returns-10 c =
     let v = c .before .before .before .before .before .before .args in
-    ap (λ w. recorded w (judgeOf (v .s) (v .reservations .now) (v .held .now) (v .mapped .now) (v .live .now)) (v .a) (v .b)) (sym (c .enum-told10 .given .1))
+    let ts = lent (v .reservations .now) (v .held .now) (v .mapped .now) (v .live .now) in
+    ap (λ w. recorded w (judgeOf (v .s) ts) (v .a) (v .b)) (sym (c .enum-told10 .given .1))
 
 same-length-11 : tie.Need-same-length-11
 same-length-11 c = search needs
@@ -169,7 +179,8 @@ returns-11 : tie.Need-returns-11
 unfolding recorded
 returns-11 c =
     let v = c .before .before .before .before .before .before .before .before .before .before .before .args in
-    c .before .before .on-giveback .ensures (v .held .now) (v .live .now) ∙ ap (λ w. recorded w (judgeOf (v .s) (v .reservations .now) (v .held .now) (v .mapped .now) (v .live .now)) (v .a) (v .b)) (sym (c .before .before .before .before .before .enum-told11 .given .1))
+    let ts = lent (v .reservations .now) (v .held .now) (v .mapped .now) (v .live .now) in
+    c .before .before .on-giveback .ensures (v .held .now) (v .live .now) ∙ ap (λ w. recorded w (judgeOf (v .s) ts) (v .a) (v .b)) (sym (c .before .before .before .before .before .enum-told11 .given .1))
 
 pub on-record-spec : {M : Type 1} → statement M
 on-record-spec =

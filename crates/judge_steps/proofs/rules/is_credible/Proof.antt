@@ -1,8 +1,8 @@
--- `judge_steps::rules::is_credible` meets its contract, by cases of its tests. Assumes nothing.
+-- `judge_steps::rules::is_credible` meets its contract, by cases of its tests.
 use borrow.Author.Needs.{needs}
 use native.Mathlib.Omega.{arith}
 use Rattle.judge_tables.specs.Rows.{rows}
-use Rattle.judge_steps.proofs.Ruling.{credible-zero, credible-off, credible-high, credible-is}
+use Rattle.judge_steps.proofs.RulesByTests.{credible-zero, credible-off, credible-high, credible-is}
 use Rattle.judge_steps.proofs.rules.is_credible.Statement.{statement}
 use Rattle.judge_steps.proofs.rules.is_credible.Tie as tie
 

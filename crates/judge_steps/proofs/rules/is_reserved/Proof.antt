@@ -1,7 +1,7 @@
--- `judge_steps::rules::is_reserved` meets its contract, by cases of its test. Assumes nothing.
+-- `judge_steps::rules::is_reserved` meets its contract, by cases of its test.
 use borrow.Author.Needs.{needs}
 use Rattle.judge_tables.specs.Rows.{rows}
-use Rattle.judge_steps.proofs.Ruling.{reserved-off, reserved-is}
+use Rattle.judge_steps.proofs.RulesByTests.{reserved-off, reserved-is}
 use Rattle.judge_steps.proofs.rules.is_reserved.Statement.{statement}
 use Rattle.judge_steps.proofs.rules.is_reserved.Tie as tie
 

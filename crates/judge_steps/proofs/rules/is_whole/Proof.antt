@@ -1,7 +1,7 @@
--- `judge_steps::rules::is_whole` meets its contract, by cases of its tests. Assumes nothing.
+-- `judge_steps::rules::is_whole` meets its contract, by cases of its tests.
 use borrow.Author.Needs.{needs}
 use Rattle.judge_tables.specs.Rows.{rows}
-use Rattle.judge_steps.proofs.Ruling.{whole-nothing, whole-part, whole-off, whole-is}
+use Rattle.judge_steps.proofs.RulesByTests.{whole-nothing, whole-part, whole-off, whole-is}
 use Rattle.judge_steps.proofs.rules.is_whole.Statement.{statement}
 use Rattle.judge_steps.proofs.rules.is_whole.Tie as tie
 

@@ -1,5 +1,5 @@
 -- `cut_region` meets its contract: `cut-some` is the store of the rest, `cut-all` the loop where nothing is left. Its invariant is that of `remove_at`: with
--- the free place taken out, the cells are those of the entry without the one at `at`. Assumes nothing.
+-- the free place taken out, the cells are those of the entry without the one at `at`.
 use mathlib.Core.Path.{_≡_, refl, ap, sym, _∙_}
 use Prim.Native.Nat.{_+_, _-_, _≤_, _<_}
 use native.Mathlib.Omega.{arith}
@@ -9,15 +9,16 @@ use Rattle.lists.specs.Places.{removeAt}
 use Rattle.lists.proofs.Tests.{length-mapped}
 use Rattle.lists.proofs.Places.{shift-down, length-removeAt}
 use Rattle.lists.proofs.Cells.{packed-set, removed}
-use Rattle.tables.specs.Values.{region, freeOf, packFree}
-use Rattle.tables.proofs.Packs.{free-count}
-use Rattle.regions.proofs.Rests.{cell-is, within, rest, cut-all, cut-some}
+use Rattle.tables.specs.Bounds.{SPANS}
+use Rattle.tables.specs.Values.{freeOf, packFree, emptyRegion}
+use Rattle.tables.proofs.Packs.{free-count, free-cell}
+use Rattle.regions.proofs.CutRegion.{within, rest, cut-all, cut-some}
 use Rattle.regions.proofs.cutting.cut_region.Statement.{statement}
 use Rattle.regions.proofs.cutting.cut_region.Tie as tie
 
 abbrev Inv-loop : tie.InvT-loop
 Inv-loop at taken out₀ last i₀ out i =
-    ((i ≤ last) × (last < 128)) × ((length (out .cells) ≡ 128) × (removeAt i (out .cells) ≡ removeAt at (out₀ .cells)))
+    ((i ≤ last) × (last < SPANS)) × ((length (out .cells) ≡ SPANS) × (removeAt i (out .cells) ≡ removeAt at (out₀ .cells)))
 
 abbrev μ-loop : tie.MeasureT-loop
 μ-loop at taken out₀ last i₀ out i = last - i
@@ -31,7 +32,7 @@ element-copy-out-r c = search needs
 add-t16 : tie.Need-add-t16 Inv-loop μ-loop
 add-t16 c =
     let s = c .before .before .before .before .before in
-    omega (arith, ap (λ q. q .start .0 + q .size) (cell-is (s .args .t) (s .args .at) (s .pre .placed)))
+    omega (arith, ap (λ q. q .start .0 + q .size) (free-cell (s .args .t) (s .args .at) (s .pre .placed)))
 
 sub-t18 : tie.Need-sub-t18 Inv-loop μ-loop
 sub-t18 c = search needs
@@ -49,10 +50,10 @@ returns c =
     let t = s .args .t in
     let at = s .args .at in
     let l = freeOf t in
-    let here = cell-is t at (s .pre .placed) in
+    let here = free-cell t at (s .pre .placed) in
     let q = rest t at (s .args .taken) (s .pre) in
     let stored : set (t .cells) at q ≡ packFree (set l at q) .cells =
-    ap (λ m. set m at q) (s .pre .kept .whole) ∙ packed-set 128 (region 0 0 0 0) l at q (within t at (s .args .taken) (s .pre)) in
+    ap (λ m. set m at q) (s .pre .kept .whole) ∙ packed-set SPANS emptyRegion l at q (within t at (s .args .taken) (s .pre)) in
     rw (cut-some t at (s .args .taken) (s .pre) (rw here (c .before .before .before .if1 .taken)), ← here)
     (λ i. record { cells = stored i; count = (free-count t (s .pre .kept) ∙ sym (length-set l at q)) i })
 
@@ -83,7 +84,7 @@ loop-less c = search needs
 loop-again : tie.Need-loop-again Inv-loop μ-loop
 loop-again c =
     let v = c .before .before .loop in
-    ((search needs, search needs), (search needs, shift-down (v .out .cells) (v .i) (region 0 0 0 0) (omega arith) ∙ v .inv .1 .1))
+    ((search needs, search needs), (search needs, shift-down (v .out .cells) (v .i) emptyRegion (omega arith) ∙ v .inv .1 .1))
 
 mul-t11 : tie.Need-mul-t11 Inv-loop μ-loop
 mul-t11 c = search needs
@@ -102,9 +103,9 @@ returns-2 c =
     let e : v .i ≡ t .count - 1 = omega arith in
     let n = free-count t (s .pre .kept) in
     let fewer : t .count - 1 ≡ length (removeAt at (freeOf t)) = omega (arith, length-removeAt at (freeOf t) (omega arith)) in
-    rw (cut-all t at (s .args .taken) (s .pre) (omega (arith, d .if1 .left, ap (λ q. q .size) (cell-is t at (s .pre .placed)))))
+    rw (cut-all t at (s .args .taken) (s .pre) (omega (arith, d .if1 .left, ap (λ q. q .size) (free-cell t at (s .pre .placed)))))
     (λ i. record {
-      cells = removed 128 (region 0 0 0 0) (freeOf t) (s .pre .kept .whole) n (v .out .cells) at (omega arith) (omega arith) (omega arith) (rw e at (v .inv .1 .1)) i;
+      cells = removed SPANS emptyRegion (freeOf t) (s .pre .kept .whole) n (v .out .cells) at (omega arith) (omega arith) (omega arith) (rw e at (v .inv .1 .1)) i;
       count = fewer i;
     })
 

@@ -1,8 +1,9 @@
--- `trace::Line::put` meets its contract: the row of the table is the word, and `put_text` puts the rest. Assumes nothing.
-use mathlib.Core.Path.{ap, _∙_}
+-- `trace::Line::put` meets its contract: the row of the table is the word, and `put_text` puts the rest.
+use mathlib.Core.Path.{sym, ap, _∙_}
 use mathlib.Core.List.{List}
 use Prim.Native.Nat.{ℕ}
 use native.Mathlib.Omega.{arith}
+use lib.Seq.{length-take-le}
 use Rattle.trace.specs.Form.{text, printed}
 use Rattle.trace.proofs.Put.{put-as}
 use Rattle.trace.proofs.Words.{table-row, length-word}
@@ -13,26 +14,25 @@ use Rattle.trace.proofs.Line.put.Tie as tie
 table-row-requires : tie.Need-table-row-requires
 table-row-requires c κs = search needs
 
-mul-from : tie.Need-mul-from
-mul-from c = search needs
+mul-row : tie.Need-mul-row
+mul-row c = search needs
 
-mul-to : tie.Need-mul-to
-mul-to c = search needs
+array-copy-out-row : tie.Need-array-copy-out-row
+array-copy-out-row c = search needs
 
-array-read-to : tie.Need-array-read-to
-array-read-to c = search needs
+mul-size : tie.Need-mul-size
+mul-size c = search needs
 
-add-to : tie.Need-add-to
-add-to c = omega (arith, table-row (c .table-row .result) (c .table-row .ensures .0) .short)
+array-read-size : tie.Need-array-read-size
+array-read-size c = search needs
 
-sub-put-text : tie.Need-sub-put-text
-sub-put-text c = search needs
+array-share-prefix-row : tie.Need-array-share-prefix-row
+array-share-prefix-row c = let r = c .before .before .table-row in table-row (r .result) (r .ensures .0) .short
 
-part-put-text-start : tie.Need-part-put-text-start
-part-put-text-start c = search needs
-
-part-put-text-end : tie.Need-part-put-text-end
-part-put-text-end c = omega (arith, table-row (c .before .before .table-row .result) (c .before .before .table-row .ensures .0) .short)
+slice-aggregate-put-text : tie.Need-slice-aggregate-put-text
+slice-aggregate-put-text c =
+    let r = c .before .before .before .table-row in
+    sym (length-take-le _ _ (table-row (r .result) (r .ensures .0) .short))
 
 put-text-requires : tie.Need-put-text-requires
 put-text-requires c κs =
@@ -54,13 +54,12 @@ put-spec =
     tie.close
     (tie.spec
     table-row-requires
-    mul-from
-    mul-to
-    array-read-to
-    add-to
-    sub-put-text
-    part-put-text-start
-    part-put-text-end
+    mul-row
+    array-copy-out-row
+    mul-size
+    array-read-size
+    array-share-prefix-row
+    slice-aggregate-put-text
     put-text-requires
     same-length
     returns)

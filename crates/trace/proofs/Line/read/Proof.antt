@@ -1,4 +1,4 @@
--- `trace::Line::read` meets its contract. The invariant: what the machine comes to on the whole line, it comes to from here on the rest. Assumes nothing.
+-- `trace::Line::read` meets its contract. The invariant: what the machine comes to on the whole line, it comes to from here on the rest.
 use Rattle.trace.proofs.Meaning.{read-as}
 use Rattle.trace.proofs.Fields.{reading-is}
 use mathlib.Core.Path.{_≡_, refl, sym, _∙_}

@@ -1,4 +1,4 @@
--- `trace::Partial::finish` meets its contract, variant by variant. Assumes nothing.
+-- `trace::Partial::finish` meets its contract, variant by variant.
 use borrow.Author.Needs.{needs}
 use Rattle.trace.proofs.Partial.finish.Statement.{statement}
 use Rattle.trace.proofs.Partial.finish.Tie as tie

@@ -1,4 +1,4 @@
--- `trace::Partial::is_fresh` meets its contract, variant by variant. Assumes nothing.
+-- `trace::Partial::is_fresh` meets its contract, variant by variant.
 use borrow.Author.Needs.{needs}
 use Rattle.trace.proofs.Partial.is_fresh.Statement.{statement}
 use Rattle.trace.proofs.Partial.is_fresh.Tie as tie

@@ -1,4 +1,4 @@
--- `trace::Partial::scan` meets its contract. The invariant: what is reached from the start is reached from here. Assumes nothing.
+-- `trace::Partial::scan` meets its contract. The invariant: what is reached from the start is reached from here.
 use mathlib.Core.Path.{_≡_, refl, sym, _∙_}
 use Prim.Native.Nat.{_-_, _≤_}
 use native.Mathlib.Omega.{arith}

@@ -1,4 +1,4 @@
--- `trace::Partial::step` meets its contract, variant by variant. Assumes nothing.
+-- `trace::Partial::step` meets its contract, variant by variant.
 use borrow.Author.Needs.{needs}
 use Rattle.trace.proofs.Partial.step.Statement.{statement}
 use Rattle.trace.proofs.Partial.step.Tie as tie

@@ -1,4 +1,4 @@
--- `words::Answer::at` meets its contract: the pair after `made` others is there exactly where `made` is below half the length. Assumes nothing.
+-- `words::Answer::at` meets its contract: the pair after `made` others is there exactly where `made` is below half the length.
 use mathlib.Core.Path.{sym, _∙_}
 use native.Mathlib.Omega.{arith}
 use Rattle.words.proofs.Answers.{lent-pair, lent-missing}

@@ -1,4 +1,4 @@
--- `words::Answer::of_pair` meets its contract, by the test of the code. Assumes nothing.
+-- `words::Answer::of_pair` meets its contract, by the test of the code.
 use borrow.Author.Tests.{eq-eqb, ne-eqb}
 use Rattle.words.specs.Answers.{ofPair}
 use Rattle.words.proofs.Answer.of_pair.Statement.{statement}

@@ -1,6 +1,5 @@
 -- `words::Reader::new` meets its contract: a walk of its MIR, by hand. A `Reader` is made of the slice and the number passed, in the result's local.
 -- A `&[u64]` is Copy, so what it owns is had twice: once for the parameter at exit, and once inside the result, beside the facts of the place.
--- Assumes nothing.
 use mathlib.Core.Path.{refl}
 use Prim.Native.Nat.{ℕ, _<_, _^_}
 use mathlib.Core.List.{List, [], _∷_}

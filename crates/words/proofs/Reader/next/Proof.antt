@@ -1,6 +1,5 @@
 -- `words::Reader::next` meets its contract: a walk of its MIR, by hand. The borrow is opened, the slice and the place are read, `taken_after` is called on them and its answer stored as the new place; the borrow is closed at the new record, and `Answer::at` is called on what was read. All that the proof knows of the two is that each meets its contract.
 -- A `Reader` is Copy: what it owns is had twice, one copy goes back under the borrow with the new place's facts (`again`), and of the other what the slice owns goes to each callee, beside the token of 'a, which comes back.
--- Assumes nothing.
 use mathlib.Core.Path.{_≡_, refl, ap}
 use Prim.Native.Nat.{ℕ, _<_, _^_}
 use mathlib.Core.List.{List, [], _∷_}

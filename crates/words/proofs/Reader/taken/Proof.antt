@@ -1,6 +1,5 @@
 -- `words::Reader::taken` meets its contract: a walk of its MIR, by hand. The place is read from the struct, which is at exit as it was passed.
 -- That the place fits its type is in the struct's relation, at the field.
--- Assumes nothing.
 use mathlib.Core.Path.{refl}
 use Prim.Native.Nat.{_<_, _^_}
 use mathlib.Core.List.{[], _∷_}

@@ -1,4 +1,4 @@
--- `words::Record::put` meets its contract: four stores in a row are the four numbers in front of what stands behind them. Assumes nothing.
+-- `words::Record::put` meets its contract: four stores in a row are the four numbers in front of what stands behind them.
 use mathlib.Core.List.{_∷_, []}
 use native.Mathlib.Omega.{arith}
 use lib.ListN.{length-set}

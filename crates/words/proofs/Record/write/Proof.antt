@@ -1,4 +1,4 @@
--- `words::Record::write` meets its contract, by the promise of `put` on the rest of the log. Assumes nothing.
+-- `words::Record::write` meets its contract, by the promise of `put` on the rest of the log.
 use Rattle.words.proofs.Log.{written-one}
 use borrow.Author.Needs.{needs}
 use Rattle.words.proofs.Record.write.Statement.{statement}

@@ -1,0 +1,5 @@
+pub mod Sessions
+pub mod PageLaws
+pub mod Keeps
+pub mod Accepted
+pub mod InBounds

@@ -1,5 +1,0 @@
-pub mod Sessions
-pub mod Laws
-pub mod Keeps
-pub mod Accepted
-pub mod Few

@@ -1,6 +1,0 @@
-pub mod Said
-pub mod Ranges
-pub mod Rules
-pub mod Verdict
-pub mod Meaning
-pub mod Few

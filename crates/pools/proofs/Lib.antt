@@ -1,4 +1,0 @@
-pub mod Reading
-pub mod Entering
-pub mod Looking
-pub mod Zeros

@@ -1,0 +1,79 @@
+-- What is kept of the lent answers: one pair more stands behind the others, and behind the last pair that is kept nothing more is.
+use mathlib.Core.Path.{_≡_, refl, sym, ap, _∙_}
+use mathlib.Core.Bool.{Bool, true, false, true≢false}
+use mathlib.Core.List.{List, [], _∷_, _++_}
+use Prim.Native.Nat.{ℕ, _+_, _*_, _≤_, _<_, min}
+use native.Mathlib.Omega.{arith}
+use native.Mathlib.Numerals.{add-one}
+use borrow.Author.Tests.{le-leb, lt-leb, ne-eqb}
+use lib.ListN.{length, take, drop, set, length-set, length-append, length-take}
+use lib.Seq.{sets-eq, take-all, take-at, take-append-le, length-take-le}
+use Rattle.trace.specs.Kinds.{lastDriver, OPEN, RESULT}
+use Rattle.trace.specs.declared.Line.{Line}
+use Rattle.replay_answers.specs.Lending.{isDriver, isCall, valueIn, answerIn}
+use Rattle.replay_answers.specs.Promises.{KEPT, Keeps, lentBy, Lends}
+
+module _ {cells : List ℕ} {count : ℕ} {xs : List ℕ} (k : Keeps cells count xs) where
+  kept-length : 2 * count ≡ min (2 * KEPT) (length xs)
+  kept-length =
+      let h = k .few in
+      let g = k .room in
+      sym (length-take-le (2 * count) cells (omega arith)) ∙ ap length (k .front) ∙ length-take (2 * KEPT) xs
+
+  -- where fewer are lent, all are kept
+  pub kept-all : count < KEPT → take (2 * KEPT) xs ≡ xs
+  kept-all h = take-all (2 * KEPT) xs (omega (arith, kept-length))
+
+  pub keeps-more : (c v : ℕ) → count < KEPT → Keeps (set (set cells (2 * count) c) (2 * count + 1) v) (count + 1) (xs ++ (c ∷ v ∷ []))
+  keeps-more c v h =
+      let g = k .room in
+      let n : length (take (2 * count) cells) ≡ 2 * count = length-take-le (2 * count) cells (omega arith) in
+      let m : length (take (2 * count) cells ++ (c ∷ v ∷ [])) ≡ 2 * (count + 1) = length-append (take (2 * count) cells) (c ∷ v ∷ []) ∙ omega arith in
+      let s : set (set cells (2 * count) c) (2 * count + 1) v ≡ (take (2 * count) cells ++ (c ∷ v ∷ [])) ++ drop (2 * count + length (c ∷ v ∷ [])) cells =
+      ap (λ (i : ℕ). set (set cells (2 * count) c) i v) (add-one (2 * count))
+      ∙ sets-eq (c ∷ v ∷ []) cells (2 * count) (omega arith) in
+      let a : length (xs ++ (c ∷ v ∷ [])) ≤ 2 * KEPT = simp length-append (omega (arith, kept-length)) in
+      record {
+        room = simp length-set (k .room);
+        few = omega arith;
+        front =
+            ap (take (2 * (count + 1))) s
+            ∙ take-at (take (2 * count) cells ++ (c ∷ v ∷ [])) (drop (2 * count + length (c ∷ v ∷ [])) cells) (2 * (count + 1)) m
+            ∙ ap (λ (l : List ℕ). l ++ (c ∷ v ∷ [])) (k .front ∙ kept-all h)
+            ∙ sym (take-all (2 * KEPT) (xs ++ (c ∷ v ∷ [])) a);
+      }
+
+  -- a spare answer
+  pub keeps-spare : (ys : List ℕ) → count ≡ KEPT → Keeps cells count (xs ++ ys)
+  keeps-spare ys h =
+      record { room = k .room; few = k .few; front = k .front ∙ sym (take-append-le (2 * KEPT) xs ys (omega (arith, kept-length))) }
+
+-- the words by their kinds
+pub driver-below : (l : Line) → l .kind < OPEN → isDriver l ≡ true
+driver-below l h = le-leb (l .kind) lastDriver (omega arith)
+
+pub no-driver : (l : Line) → OPEN ≤ l .kind → isDriver l ≡ false
+no-driver l h = lt-leb (l .kind) lastDriver (omega arith)
+
+pub result-lends : (l : Line) (xs : List ℕ) → l .kind ≡ RESULT → lentBy l xs ≡ xs
+result-lends l xs e = rw (no-driver l (omega arith))
+
+-- what is no call and no result is the driver's
+pub driver-lends : (l : Line) (xs : List ℕ) → isCall l ≡ false → (l .kind ≡ RESULT → ⊥) → lentBy l xs ≡ xs ++ answerIn l
+unfolding isCall
+driver-lends l xs e h = go (isDriver l) refl
+  where
+    go : (b : Bool) → isDriver l ≡ b → lentBy l xs ≡ xs ++ answerIn l
+    go true d = rw d
+    go false d = absurd (true≢false (sym (rw (d, ne-eqb (l .kind) RESULT h)) ∙ e))
+
+module _ (l : Line) {cells : List ℕ} {count : ℕ} where
+  pub result-lent : l .kind ≡ RESULT → count ≤ KEPT → Lends l cells count cells count
+  result-lent e h = record { keeps = λ g xs k. rw (result-lends l xs e) k; few = h }
+
+  module _ (other : l .kind ≡ RESULT → ⊥) where
+    pub spare-lent : count ≡ KEPT → Lends l cells count cells count
+    spare-lent h = record { keeps = λ g xs k. rw (driver-lends l xs g other) (keeps-spare k (answerIn l) h); few = omega arith }
+
+    pub more-lent : count < KEPT → Lends l cells count (set (set cells (2 * count) (l .third)) (2 * count + 1) (valueIn l)) (count + 1)
+    more-lent h = record { keeps = λ g xs k. rw (driver-lends l xs g other) (keeps-more k (l .third) (valueIn l) h); few = omega arith }

@@ -1,0 +1,4 @@
+pub mod Buffers
+pub mod Due
+pub mod Turning
+pub mod Runs

@@ -1,3 +1,0 @@
-pub mod Due
-pub mod Turning
-pub mod Runs
