@@ -125,7 +125,7 @@ impl Pool {
         unready::malloc(self, bytes, stream, answers, log)
     }
 
-    // The buffer's range is inserted as free, on its stream. The call changes its own copy of the pool, table by table.
+    // The buffer's range is inserted as free, on its stream. The call changes its own copy of the pool, table by table; it names no other, or there are two.
     pub fn free(self, address: Address, answers: &[u64], log: &mut [u64]) -> Called
         ensures { λ r. ⌜ Frees self address (now (answers .entry)) (now (log .entry)) r (now (log .exit)) ⌝ }
     {
@@ -135,13 +135,13 @@ impl Pool {
                 if is_sound(q) {
                     let choice = find_buffer(q.live, address);
                     let Choice::At(at) = choice else {
-                        return leaving::refuse(self, Ended::Ends(Outcome::InvalidPointer(address)));
+                        return leaving::refuse(Pool { value: q }, Ended::Ends(Outcome::InvalidPointer(address)));
                     };
                     let freed = free_steps(q.live, q.free, q.counter, at, answers, log, 0);
                     let outcome = freed.outcome;
                     let state = leaving::state_after(outcome);
                     if state == 0 {
-                        return leaving::leave_short(self, outcome, freed.made);
+                        return leaving::leave_short(Pool { value: q }, outcome, freed.made);
                     }
                     let live = freed.live;
                     let free = freed.free;
@@ -158,7 +158,7 @@ impl Pool {
                 }
             }
         }
-        unready::free(self, address, answers, log)
+        unready::free(Pool { value: q }, address, answers, log)
     }
 
     // Sync, zombies, pages, roots: all that the pool holds goes back to the driver, and no failure ends it.
