@@ -1,27 +1,24 @@
 -- Every trace of the pool is accepted: the opening and each call lead the judge from one state that agrees with the pool to the next, and at the end no
 -- line is missing. So in every run no two live buffers share a page, and each keeps its pages.
-use mathlib.Core.Path.{_≡_, _∙_}
+use mathlib.Core.Path.{_≡_}
 use mathlib.Core.Bool.{true}
-use mathlib.Core.List.{List, [], _∷_, _++_, map}
+use mathlib.Core.List.{List, [], _∷_, map}
 use Prim.Native.Nat.{ℕ, _+_}
 use lib.ListN.{take}
 use Rattle.tables.specs.Outcomes.{is}
-use Rattle.tables.specs.Open.{pageSize}
-use Rattle.trace.specs.Kinds.{openLine}
 use Rattle.trace.specs.declared.Line.{Line}
 use Rattle.trace.specs.declared.Reading.the-variants.{Good}
 use Rattle.judge_rules.specs.Rules.{Judge}
 use Rattle.judge_rules.specs.Verdict as Verdict
 use Rattle.judge_rules.specs.Meaning.{SoundAfter, newestFirst}
 use Rattle.judge_rules.specs.declared.Verdict.the-variants.{Accepted}
-use Rattle.judge_rules.proofs.Keeps.{on-on}
+use Rattle.judge_rules.proofs.Steps.{on-on}
 use Rattle.judge_rules.proofs.Accepted.{accepted-means}
-use Rattle.agreement.specs.Runs.{Lent, Opening, opened, entry, traceFrom, traceOf}
-use Rattle.agreement.specs.Premises.{credible, Premises}
-use Rattle.agreement.specs.Judges.{read, Fair}
-use Rattle.agreement.proofs.Reading.{went-on, read-append, fair-first, fair-second, every-first}
-use Rattle.agreement.proofs.OpenCall.{open-read}
-use Rattle.agreement.proofs.Run.{Rests, run-read}
+use Rattle.agreement.specs.Runs.{Lent, Opening, opened, traceOf}
+use Rattle.agreement.specs.Premises.{Premises}
+use Rattle.agreement.specs.Judges.{read}
+use Rattle.agreement.proofs.Reading.{went-on}
+use Rattle.agreement.proofs.Run.{Rests, trace-read}
 
 -- lines that are read to a state between calls are accepted
 verdict-read : (n : ℕ) (s : Judge) (ls : List Line) (z : Judge) → read s ls ≡ Verdict.on z → Rests z → Verdict.verdictFrom n s (map Good ls) ≡ Accepted
@@ -34,13 +31,8 @@ verdict-read n s (l ∷ ls) z e r =
 pub accepted : (o : Opening) (cs : List Lent) → is 0 (opened o .outcome) ≡ true → Premises (traceOf o cs) → Verdict.verdict (map Good (traceOf o cs)) ≡ Accepted
 unfolding Verdict.verdict
 accepted o cs e h =
-    let l = openLine (pageSize (o .granularity) (o .override)) (o .va) (o .initial) in
-    let first = entry l (opened o) in
-    let rest = traceFrom (opened o .pool) cs in
-    let fair : Fair [] (first ++ rest) = record { driver = h .driver; mapped = h .mapped } in
-    let one = open-read o e (fair-first [] first rest fair) in
-    let two = run-read cs (opened o .pool) (one .state) (one .holds) (fair-second Verdict.start first rest (one .state) (one .reads) fair) (every-first credible first rest (h .credible) .1) in
-    verdict-read 0 Verdict.start (first ++ rest) (two .state) (read-append Verdict.start first rest (one .state) (one .reads) ∙ two .reads) (two .holds)
+    let r = trace-read o cs e (record { driver = h .driver; mapped = h .mapped }) (h .credible) in
+    verdict-read 0 Verdict.start (traceOf o cs) (r .state) (r .reads) (r .holds)
 
 -- No two live buffers ever share a page, and each keeps its pages: after every number of lines.
 pub buffers-apart : (o : Opening) (cs : List Lent) → is 0 (opened o .outcome) ≡ true → Premises (traceOf o cs) → (n : ℕ) →

@@ -5,6 +5,7 @@ use mathlib.Core.List.{[], _∷_, map}
 use Prim.Native.Nat.{ℕ}
 use lib.Dec.{ltb, leb, eqb}
 use Rattle.lists.proofs.Tests.{neither}
+use Rattle.lists.proofs.Every.{and-true}
 use Rattle.tables.specs.Bounds.{IDS, LOG}
 use Rattle.tables.specs.Values.{Tables, opened, closed, stopped, poolOf, atEntry}
 use Rattle.tables.specs.Outcomes.{numbers, is}
@@ -25,8 +26,8 @@ use Rattle.judge_rules.specs.declared.Run.{Run}
 use Rattle.replay_lines.specs.Traced.{lineOf, resultOf}
 use Rattle.agreement.specs.Runs.{entry}
 use Rattle.agreement.specs.Agrees.{Inside, Ended}
-use Rattle.agreement.specs.Judges.{next, Reach, Fair, addresses, excused}
-use Rattle.agreement.proofs.Entries.{step-result, fair-records, reach-entry}
+use Rattle.agreement.specs.Judges.{next, Reach, Fair, addresses, excused, ReachedBy}
+use Rattle.agreement.proofs.Entries.{step-result, credible-result, fair-records, entry-reached}
 use Rattle.agreement.proofs.Standing.{
   Stands,
   Standing,
@@ -34,15 +35,16 @@ use Rattle.agreement.proofs.Standing.{
   callOf,
   calling,
   step-call,
+  credible-call,
   agrees-run,
   inside-calling,
   result-read,
   refused-read,
 }
 
--- What is to be shown of a call that answers `r`, where it enters a trace: not 17, and by premise not 15.
+-- What is to be shown of a call that answers `r`.
 abbrev pub Read : Call → Pool → Judge → Reply → Type 0
-Read c p s r = excused (r .outcome) ≡ false → Fair (addresses (s .mapped)) (entry (lineOf c) r) → Reach s (entry (lineOf c) r) (Standing (r .pool))
+Read c p s r = Fair (addresses (s .mapped)) (entry (lineOf c) r) → ReachedBy (r .outcome) s (entry (lineOf c) r) (Standing (r .pool))
 
 module _ (p : Pool) (s : Judge) (h : Stands p s) where
   pub state-open : p .state ≡ opened
@@ -67,8 +69,8 @@ module _ (p : Pool) (s : Judge) (h : Stands p s) where
       go true b d e g x y z = absurd (false≢true (sym x))
       go false true d e g x y z = absurd (false≢true (sym y))
       go false false true e g x y z = absurd (false≢true (sym z))
-      go false false false true g x y z = λ _ _. refused-read c p s ShortLog refl h
-      go false false false false true x y z = λ _ _. refused-read c p s IdsSpent refl h
+      go false false false true g x y z = λ _. refused-read c p s ShortLog refl refl h
+      go false false false false true x y z = λ _. refused-read c p s IdsSpent refl refl h
       go false false false false false x y z = f
 
 -- A result with answer 0, of a judge that is inside the call `c`.
@@ -86,6 +88,7 @@ module _ (c : Call) (s y : Judge) (same : y .run ≡ calling c s .run) (over : s
         reads =
             ap (λ x. next x (λ v. Verdict.on v))
             (step-result a b 0 y inside-here ∙ (ap (λ k. Verdict.answered k (Verdict.told y) a b) call-is ∙ e));
+        credible = and-true _ true (credible-result a b 0 refl) refl;
         holds = r;
       }
 
@@ -98,7 +101,7 @@ ended-read c p s y o lost t over left e x =
     let stopped-not : (is 14 o || is 15 o) ≡ false = rw (n .1, q .0) in
     let after : poolAfter p t o ≡ poolOf opened t = rw (q .1, n .1, q .0) in
     let run : y .run ≡ calling c s .run = e .1 .runs in
-    result-read o y (n .0) (inside-here c s y run over) (Standing (poolAfter p t o)) (stands (record {
+    result-read o y (n .0) (q .0) (inside-here c s y run over) (Standing (poolAfter p t o)) (stands (record {
       tables = t;
       lost = lost;
       pool = after;
@@ -111,13 +114,14 @@ ended-read c p s y o lost t over left e x =
 
 -- A call that went: its line leads into it, then its records and its result are read.
 pub finished-read : (c : Call) (p : Pool) (s : Judge) → Stands p s → (w : Went Outcome) →
-    (excused (outcomeOf (w .ending)) ≡ false → Fair (addresses (calling c s .mapped)) (map ofRecord (w .records)) →
-    Reach (calling c s) (map ofRecord (w .records)) (λ y. Reach y (resultOf (numbers (outcomeOf (w .ending))) ∷ []) (Standing (poolAfter p (w .tables) (outcomeOf (w .ending)))))) →
+    (Fair (addresses (calling c s .mapped)) (map ofRecord (w .records)) →
+    ReachedBy (outcomeOf (w .ending)) (calling c s) (map ofRecord (w .records))
+    (λ y. Reach y (resultOf (numbers (outcomeOf (w .ending))) ∷ []) (Standing (poolAfter p (w .tables) (outcomeOf (w .ending)))))) →
     Read c p s (finished p w)
 unfolding finished
-finished-read c p s h w reads x fair =
+finished-read c p s h w reads fair =
     let entered = step-call c s (h .opens) (h .waiting) in
     let records = map ofRecord (w .records) in
     let result = resultOf (numbers (outcomeOf (w .ending))) in
-    reach-entry s (calling c s) (lineOf c) entered records result (Standing (poolAfter p (w .tables) (outcomeOf (w .ending))))
-    (reads x (fair-records s (calling c s) (lineOf c) entered records result fair))
+    entry-reached s (calling c s) (lineOf c) entered (credible-call c) (outcomeOf (w .ending)) records result (Standing (poolAfter p (w .tables) (outcomeOf (w .ending))))
+    (reads (fair-records s (calling c s) (lineOf c) entered records result fair))

@@ -11,7 +11,7 @@ use Rattle.lists.specs.Tests.{Member, filter, first}
 use Rattle.lists.specs.Order.{without}
 use Rattle.lists.proofs.Members.{member-first}
 use Rattle.tables.specs.Values.{Tables, address, opened, poolOf, atEntry}
-use Rattle.tables.specs.Outcomes.{numbers}
+use Rattle.tables.specs.Outcomes.{numbers, is}
 use Rattle.tables.specs.Steps.{Ending, on, ends, Went}
 use Rattle.tables.specs.HandsBack.{outcomeOf, poolAfter, finished}
 use Rattle.tables.specs.Free.{freeSteps, freeFound, free}
@@ -30,7 +30,9 @@ use Rattle.judge_rules.specs.declared.Run.{Run}
 use Rattle.judge_rules.specs.declared.Call.the-variants.{Free}
 use Rattle.replay_lines.specs.Traced.{resultOf}
 use Rattle.agreement.specs.Agrees.{SameBy, buffer, Serving}
-use Rattle.agreement.specs.Judges.{Reach, Fair, addresses, excused, Reached}
+use Rattle.agreement.specs.Judges.{Reach, Fair, addresses, ReachedBy, Reached}
+use Rattle.agreement.proofs.Reading.{reach-to}
+use Rattle.agreement.proofs.Judges.{all-read}
 use Rattle.agreement.proofs.Same.{same-filter}
 use Rattle.agreement.proofs.Free.{Gone, meets-free, judges-freeSteps}
 use Rattle.agreement.proofs.Agrees.{agrees-buffers}
@@ -101,11 +103,12 @@ module _ (b : LiveBuffer) (s : Judge) (over : s .run .over ≡ false) where
         (done-read (frees a) s y same over (b .size) (b .stream) (freed (told y)) (Standing (poolOf opened t)) freed-on (stands freed-stands))
 
   -- It ends no other way.
-  result-accepted : (p : Pool) (lost : ℕ → ℕ) (ls : List Line) (t : Tables) (e : Ending Outcome) → excused (outcomeOf e) ≡ false →
+  result-accepted : (p : Pool) (lost : ℕ → ℕ) (ls : List Line) (t : Tables) (e : Ending Outcome) →
       Reached (λ o t y. Kept lost t × Gone in-call b o t y) (λ _ _ _. ⊥) (calling (frees a) s) ls t e →
-      Reach (calling (frees a) s) ls (λ y. Reach y (resultOf (numbers (outcomeOf e)) ∷ []) (Standing (poolAfter p t (outcomeOf e))))
-  result-accepted p lost ls t (on o) x r = record { state = r .state; reads = r .reads; holds = gone-read (r .holds .0) (r .holds .1) p }
-  result-accepted p lost ls t (ends o) x r = absurd (r x .holds)
+      ReachedBy (outcomeOf e) (calling (frees a) s) ls (λ y. Reach y (resultOf (numbers (outcomeOf e)) ∷ []) (Standing (poolAfter p t (outcomeOf e))))
+  result-accepted p lost ls t (on o) r =
+      all-read o (ap (is 15) (r .holds .1 .outcome)) (λ _. reach-to (λ y q. gone-read (q .0) (q .1) p) r)
+  result-accepted p lost ls t (ends o) r = record { breaks = r .breaks; reaches = λ x. absurd (r .reaches x .holds) }
 
 module _ (p : Pool) (s : Judge) (h : Stands p s) where
   serving : (a : ℕ) → Serving (calling (frees a) s .run)
@@ -121,15 +124,15 @@ module _ (p : Pool) (s : Judge) (h : Stands p s) where
 
   served : (b : LiveBuffer) (xs : List ℕ) (w : Went Outcome) → w ≡ freeSteps b xs 0 (h .tables) → Member b (h .tables .live) → Read (frees (b .start .0)) p s (finished p w)
   served b xs w e m =
-      finished-read (frees (b .start .0)) p s h w (λ x f.
-      result-accepted b s (h .over) p (h .lost) (map ofRecord (w .records)) (w .tables) (w .ending) x (reached b xs w e m f))
+      finished-read (frees (b .start .0)) p s h w (λ f.
+      result-accepted b s (h .over) p (h .lost) (map ofRecord (w .records)) (w .tables) (w .ending) (reached b xs w e m f))
 
   pub free-read : (a : ℕ) (xs : List ℕ) (log : ℕ) → Read (frees a) p s (free p a xs log)
   unfolding free freeFound
   free-read a xs log = admitted-read p s h (frees a) log _ (go (first (λ b. eqb (b .start .0) a) (atEntry p .live)) refl)
     where
       go : (o : Option LiveBuffer) → first (λ b. eqb (b .start .0) a) (atEntry p .live) ≡ o → Read (frees a) p s (freeFound p a xs o)
-      go no e = λ _ _. refused-read (frees a) p s (InvalidPointer (address a)) refl h
+      go no e = λ _. refused-read (frees a) p s (InvalidPointer (address a)) refl refl h
       go (some b) e =
           let m = member-first (λ c. eqb (c .start .0) a) b (atEntry p .live) e in
           let here : b .start .0 ≡ a = eqb-true (b .start .0) a (first-passes (λ (c : LiveBuffer). eqb (c .start .0) a) b (atEntry p .live) e) in

@@ -1,19 +1,19 @@
 -- The rules of the triple: one for each way that a step is made.
-use mathlib.Core.Path.{_≡_, refl, _∙_}
-use mathlib.Core.Bool.{Bool, true, false, cond}
+use mathlib.Core.Path.{_≡_, refl, sym, _∙_}
+use mathlib.Core.Bool.{Bool, true, false, cond, false≢true}
 use mathlib.Core.List.{List, [], _∷_, _++_, map, map-append}
 use Prim.Native.Nat.{ℕ, _+_}
 use lib.ListN.{length}
 use Rattle.tables.specs.Values.{Tables}
+use Rattle.tables.specs.Outcomes.{is}
 use Rattle.tables.specs.Steps.{Ending, on, ends, Went, Step, Act, after, _>>=_, give, end, endIf, each, tables, change}
 use Rattle.tables.specs.declared.Outcome.{Outcome}
 use Rattle.trace.specs.Kinds.{ofRecord}
 use Rattle.trace.specs.declared.Line.{Line}
 use Rattle.keeping.specs.Holds.{After, Holds}
 use Rattle.judge_rules.specs.Rules.{Judge}
-use Rattle.judge_rules.specs.Verdict as Verdict
-use Rattle.agreement.specs.Judges.{read, Reach, Fair, addresses, excused, Reached, Judges}
-use Rattle.agreement.proofs.Reading.{read-append, fair-first, fair-second}
+use Rattle.agreement.specs.Judges.{Reach, Fair, addresses, excused, ReachedBy, Reached, Judges}
+use Rattle.agreement.proofs.Reading.{breaks-second, reach-to, reach-then, fair-first, fair-second}
 
 -- from more, and to less
 pub judges-from : {A : Type 0} {m : Step A} {P R : Tables → Judge → Type 0} {Q : A → Tables → Judge → Type 0} {E : Outcome → Tables → Judge → Type 0} →
@@ -26,7 +26,7 @@ judges-to {A} {m} {P} {Q} {R} {E} f h =
     record { reads = λ xs k t s p fair. go s (map ofRecord (m xs k t .records)) (m xs k t .tables) (m xs k t .ending) (h .reads xs k t s p fair) }
   where
     go : (s : Judge) (ls : List Line) (t : Tables) (e : Ending A) → Reached Q E s ls t e → Reached R E s ls t e
-    go s ls t (on a) r = record { state = r .state; reads = r .reads; holds = f a t (r .state) (r .holds) }
+    go s ls t (on a) r = reach-to (f a t) r
     go s ls t (ends o) r = r
 
 -- to less, where the step ends the call
@@ -37,7 +37,7 @@ judges-ends {A} {m} {P} {Q} {E} {F} f h =
   where
     go : (s : Judge) (ls : List Line) (t : Tables) (e : Ending A) → Reached Q E s ls t e → Reached Q F s ls t e
     go s ls t (on a) r = r
-    go s ls t (ends o) r = λ x. let q = r x in record { state = q .state; reads = q .reads; holds = f o t (q .state) (q .holds) }
+    go s ls t (ends o) r = record { breaks = r .breaks; reaches = λ x. reach-to (f o t) (r .reaches x) }
 
 -- from what never is
 pub judges-never : {A : Type 0} {m : Step A} {Q : A → Tables → Judge → Type 0} {E : Outcome → Tables → Judge → Type 0} → Judges (λ _ _. ⊥) m Q E
@@ -65,8 +65,8 @@ judges-and {A} {m} {K} {L} {F} {P} {Q} {E} h j =
   where
     go : (s : Judge) (ls : List Line) (t : Tables) (e : Ending A) → After L F t e → Reached Q E s ls t e →
         Reached (λ a t s. L a t × Q a t s) (λ o t s. F o t × E o t s) s ls t e
-    go s ls t (on a) l r = record { state = r .state; reads = r .reads; holds = (l, r .holds) }
-    go s ls t (ends o) l r = λ x. let q = r x in record { state = q .state; reads = q .reads; holds = (l, q .holds) }
+    go s ls t (on a) l r = reach-to (λ z q. (l, q)) r
+    go s ls t (ends o) l r = record { breaks = r .breaks; reaches = λ x. reach-to (λ z q. (l, q)) (r .reaches x) }
 
 -- one step, then another
 pub judges-then : {A B : Type 0} {m : Step A} {f : A → Step B} {P : Tables → Judge → Type 0} {E : Outcome → Tables → Judge → Type 0}
@@ -74,12 +74,11 @@ pub judges-then : {A B : Type 0} {m : Step A} {f : A → Step B} {P : Tables →
 unfolding _>>=_
 judges-then {A} {B} {m} {f} {P} {E} {R} Q jm jf = record { reads = λ xs k t s p fair. go xs k s (m xs k t) (m xs k t .ending) (jm .reads xs k t s p) fair }
   where
-    join : (s : Judge) (ls rs : List Line) (z : Judge) (K : Judge → Type 0) → read s ls ≡ Verdict.on z → Reach z rs K → Reach s (ls ++ rs) K
-    join s ls rs z K e r = record { state = r .state; reads = read-append s ls rs z e ∙ r .reads; holds = r .holds }
-
-    joins : (s : Judge) (ls rs : List Line) (z : Judge) (t : Tables) (e : Ending B) → read s ls ≡ Verdict.on z → Reached R E z rs t e → Reached R E s (ls ++ rs) t e
-    joins s ls rs z t (on b) q r = join s ls rs z (R b t) q r
-    joins s ls rs z t (ends o) q r = λ x. join s ls rs z (E o t) q (r x)
+    joins : {K : Judge → Type 0} (s : Judge) (ls rs : List Line) (t : Tables) (e : Ending B) (one : Reach s ls K) → Reached R E (one .state) rs t e →
+        Reached R E s (ls ++ rs) t e
+    joins s ls rs t (on b) one r = reach-then one r
+    joins s ls rs t (ends o) one r =
+        record { breaks = λ e. breaks-second s ls rs (one .state) (one .reads) (r .breaks e); reaches = λ x. reach-then one (r .reaches x) }
 
     go : (xs : List ℕ) (k : ℕ) (s : Judge) (w : Went A) (e : Ending A) →
         (Fair (addresses (s .mapped)) (map ofRecord (w .records)) → Reached Q E s (map ofRecord (w .records)) (w .tables) e) →
@@ -95,18 +94,22 @@ judges-then {A} {B} {m} {f} {P} {E} {R} Q jm jf = record { reads = λ xs k t s p
         let g : Fair (addresses (s .mapped)) (ls ++ rs) = rw split at fair in
         let r = h (fair-first (addresses (s .mapped)) ls rs g) in
         let rest = fair-second s ls rs (r .state) (r .reads) g in
-        rw split (joins s ls rs (r .state) (v .tables) (v .ending) (r .reads) (jf a .reads xs (k + length (w .records)) (w .tables) (r .state) (r .holds) rest))
+        rw split (joins s ls rs (v .tables) (v .ending) r (jf a .reads xs (k + length (w .records)) (w .tables) (r .state) (r .holds) rest))
+
+-- Where the number is not 15, what is read is all that there is to show.
+pub all-read : (o : Outcome) {s : Judge} {ls : List Line} {R : Judge → Type 0} → is 15 o ≡ false → (excused o ≡ false → Reach s ls R) → ReachedBy o s ls R
+all-read o n r = record { breaks = λ e. absurd (false≢true (sym n ∙ e)); reaches = r }
 
 -- nothing is read
 here : {s : Judge} {R : Judge → Type 0} → R s → Reach s [] R
-here {s} r = record { state = s; reads = refl; holds = r }
+here {s} r = record { state = s; reads = refl; credible = refl; holds = r }
 
 module _ {E : Outcome → Tables → Judge → Type 0} where
   pub judges-give : {A : Type 0} (a : A) {Q : A → Tables → Judge → Type 0} → Judges (Q a) (give a) Q E
   judges-give a = record { reads = λ xs k t s q fair. here q }
 
-  pub judges-end : {A : Type 0} (o : Outcome) {Q : A → Tables → Judge → Type 0} → Judges (E o) (end o) Q E
-  judges-end o = record { reads = λ xs k t s q fair _. here q }
+  pub judges-end : {A : Type 0} (o : Outcome) → is 15 o ≡ false → {Q : A → Tables → Judge → Type 0} → Judges (E o) (end o) Q E
+  judges-end o n = record { reads = λ xs k t s q fair. all-read o n (λ _. here q) }
 
   -- the tables are looked at: from there on they are known
   pub judges-looked : {B : Type 0} {f : Tables → Step B} {P : Tables → Judge → Type 0} {R : B → Tables → Judge → Type 0} →
@@ -135,9 +138,9 @@ module _ {E : Outcome → Tables → Judge → Type 0} where
   judges-cond true h g = h refl
   judges-cond false h g = g refl
 
-  pub judges-endIf : (b : Bool) (o : Outcome) {P : Tables → Judge → Type 0} → ((t : Tables) (s : Judge) → P t s → b ≡ true → excused o ≡ false → E o t s) →
+  pub judges-endIf : (b : Bool) (o : Outcome) {P : Tables → Judge → Type 0} → ((t : Tables) (s : Judge) → P t s → b ≡ true → (is 15 o ≡ false) × E o t s) →
       Judges P (endIf b o) (λ _ t s. P t s × (b ≡ false)) E
-  judges-endIf true o h = record { reads = λ xs k t s p fair x. here (h t s p refl x) }
+  judges-endIf true o h = record { reads = λ xs k t s p fair. let q = h t s p refl in all-read o (q .0) (λ _. here (q .1)) }
   judges-endIf false o h = record { reads = λ xs k t s p fair. here (p, refl) }
 
   -- a loop: `I` of what is left

@@ -36,8 +36,10 @@ pub mod OpenCall
 pub mod Run
 pub mod Accepted
 pub mod Texts
+pub mod TrueAnswers
 pub mod Replay
 pub mod Needed
 pub mod FewMapped
+pub mod OneSession
 pub mod MapsOver
 pub mod ManyMapped

@@ -33,19 +33,19 @@ use Rattle.agreement.proofs.HandOver.{Given, judges-handOver}
 
 module _ {run : Run} where
   -- a refusal reads nothing and changes nothing
-  refuses : (u : Tables) (b : Bool) (o : Outcome) → (is 0 o || is 14 o) ≡ false →
+  refuses : (u : Tables) (b : Bool) (o : Outcome) → (is 0 o || is 14 o) ≡ false → is 15 o ≡ false →
       Judges (λ t s. (t ≡ u) × Agreeing run none [] u s) (endIf b o) (λ _ t s. (t ≡ u) × Agreeing run none [] u s) (Ended run)
-  refuses u b o e = judges-to (λ _ t s q. q .0) (judges-endIf b o (λ t s q _ _. (e, rw (q .0) (q .1))))
+  refuses u b o e n = judges-to (λ _ t s q. q .0) (judges-endIf b o (λ t s q _. (n, (e, rw (q .0) (q .1)))))
 
   judges-refused : (n : ℕ) → Judges (Agreeing run none []) (roomRefused n) (λ _. Agreeing run none []) (Ended run)
   unfolding roomRefused
   judges-refused n =
       judges-looked (λ u.
       let pulled = length (u .zombies) + length (u .free) in
-      judges-then _ (refuses u (ltb (u .fields .va) n) (RequestedExceedsVa n (u .fields .va)) refl) (λ _.
-      judges-then _ (refuses u (ltb PAGES (length (u .pages) + missing n u / u .fields .page)) PagesFull refl) (λ _.
-      judges-then _ (refuses u (ltb ZOMBIES pulled || ltb (HOLES - 1) (pulled + length (u .holes))) ZombiesFull refl) (λ _.
-      judges-to (λ _ t s q. rw (q .0) (q .1)) (refuses u (noHole (smallestHole n (u .holes)) && leb 16 (length (u .roots))) RootsFull refl)))))
+      judges-then _ (refuses u (ltb (u .fields .va) n) (RequestedExceedsVa n (u .fields .va)) refl refl) (λ _.
+      judges-then _ (refuses u (ltb PAGES (length (u .pages) + missing n u / u .fields .page)) PagesFull refl refl) (λ _.
+      judges-then _ (refuses u (ltb ZOMBIES pulled || ltb (HOLES - 1) (pulled + length (u .holes))) ZombiesFull refl refl) (λ _.
+      judges-to (λ _ t s q. rw (q .0) (q .1)) (refuses u (noHole (smallestHole n (u .holes)) && leb 16 (length (u .roots))) RootsFull refl refl)))))
 
 module _ {run : Run} (serving : Serving run) (lost : ℕ → ℕ) (n k : ℕ) where
   module _ (p f : ℕ) (size : Whole p n) where

@@ -13,7 +13,7 @@ use Rattle.lists.proofs.Order.{length-put}
 use Rattle.tables.specs.Bounds.{SPANS}
 use Rattle.tables.specs.Values as Values
 use Rattle.tables.specs.Values.{Tables, opened, poolOf, atEntry}
-use Rattle.tables.specs.Outcomes.{numbers}
+use Rattle.tables.specs.Outcomes.{numbers, is}
 use Rattle.tables.specs.Steps.{Ending, on, ends, Went}
 use Rattle.tables.specs.HandsBack.{refused, outcomeOf, poolAfter, finished}
 use Rattle.tables.specs.Malloc.{mallocSteps, mallocBy, malloc}
@@ -34,7 +34,9 @@ use Rattle.judge_rules.specs.declared.Run.{Run}
 use Rattle.judge_rules.specs.declared.Call.the-variants.{Malloc}
 use Rattle.replay_lines.specs.Traced.{resultOf}
 use Rattle.agreement.specs.Agrees.{SameBy, buffer, Serving, Ends}
-use Rattle.agreement.specs.Judges.{Reach, Fair, addresses, excused, Reached}
+use Rattle.agreement.specs.Judges.{Reach, Fair, addresses, ReachedBy, Reached}
+use Rattle.agreement.proofs.Reading.{reach-to}
+use Rattle.agreement.proofs.Judges.{all-read}
 use Rattle.agreement.proofs.Same.{same-length, same-put}
 use Rattle.agreement.proofs.HandOver.{Given}
 use Rattle.agreement.proofs.HandedOver.{meets-malloc}
@@ -101,13 +103,16 @@ module _ (n k : ℕ) (s : Judge) (over : s .run .over ≡ false) where
         (done-read (mallocs n k) s y same over a n (handed (told y) a n) (Standing (poolOf opened t)) handed-on (stands handed-stands))
 
   -- Either way.
-  result-accepted : (p : Pool) (lost : ℕ → ℕ) (ls : List Line) (t : Tables) (e : Ending Outcome) → excused (outcomeOf e) ≡ false →
+  result-accepted : (p : Pool) (lost : ℕ → ℕ) (ls : List Line) (t : Tables) (e : Ending Outcome) →
       Reached (λ o t y. KeptBut lost t × Given in-call n k o t y) (Ends in-call lost) (calling (mallocs n k) s) ls t e →
-      Reach (calling (mallocs n k) s) ls (λ y. Reach y (resultOf (numbers (outcomeOf e)) ∷ []) (Standing (poolAfter p t (outcomeOf e))))
-  result-accepted p lost ls t (on o) x r = record { state = r .state; reads = r .reads; holds = given-read (r .holds .0) (r .holds .1) p }
-  result-accepted p lost ls t (ends o) x r =
-      let q = r x in
-      record { state = q .state; reads = q .reads; holds = ended-read (mallocs n k) p s (q .state) o lost t over (q .holds .0) (q .holds .1) x }
+      ReachedBy (outcomeOf e) (calling (mallocs n k) s) ls (λ y. Reach y (resultOf (numbers (outcomeOf e)) ∷ []) (Standing (poolAfter p t (outcomeOf e))))
+  result-accepted p lost ls t (on o) r =
+      all-read o (ap (is 15) (r .holds .1 .outcome)) (λ _. reach-to (λ y q. given-read (q .0) (q .1) p) r)
+  result-accepted p lost ls t (ends o) r =
+      record {
+        breaks = r .breaks;
+        reaches = λ x. reach-to (λ y q. ended-read (mallocs n k) p s y o lost t over (q .0) (q .1) x) (r .reaches x);
+      }
 
 module _ (n k : ℕ) (p : Pool) (s : Judge) (h : Stands p s) where
   serving : Serving (calling (mallocs n k) s .run)
@@ -123,8 +128,8 @@ module _ (n k : ℕ) (p : Pool) (s : Judge) (h : Stands p s) where
 
   served : (xs : List ℕ) (w : Went Outcome) → w ≡ mallocSteps n k xs 0 (h .tables) → Asked (h .lost) n (h .tables) → Read (mallocs n k) p s (finished p w)
   served xs w e asked =
-      finished-read (mallocs n k) p s h w (λ x f.
-      result-accepted n k s (h .over) p (h .lost) (map ofRecord (w .records)) (w .tables) (w .ending) x (reached xs w e asked f))
+      finished-read (mallocs n k) p s h w (λ f.
+      result-accepted n k s (h .over) p (h .lost) (map ofRecord (w .records)) (w .tables) (w .ending) (reached xs w e asked f))
 
   pub malloc-read : (xs : List ℕ) (log : ℕ) → Read (mallocs n k) p s (malloc p n k xs log)
   unfolding mallocBy
@@ -133,8 +138,8 @@ module _ (n k : ℕ) (p : Pool) (s : Judge) (h : Stands p s) where
     where
       go : (a : Bool) → (eqb n 0 || not (eqb (n % p .page) 0)) ≡ a → (b : Bool) → leb SPANS (p .free .count + p .live .count) ≡ b →
           Read (mallocs n k) p s (cond a (refused p (BadSize n)) (cond b (refused p SpansFull) (finished p (mallocSteps n k xs 0 (atEntry p)))))
-      go true e b q = λ _ _. refused-read (mallocs n k) p s (BadSize n) refl h
-      go false e true q = λ _ _. refused-read (mallocs n k) p s SpansFull refl h
+      go true e b q = λ _. refused-read (mallocs n k) p s (BadSize n) refl refl h
+      go false e true q = λ _. refused-read (mallocs n k) p s SpansFull refl refl h
       go false e false q =
           let size = neither (eqb n 0) (not (eqb (n % p .page) 0)) e in
           let zero : n ≡ 0 → ⊥ = eqb-false n 0 (size .0) in

@@ -10,7 +10,6 @@ use lib.Dec.{leb, ltb}
 use lib.ListN.{length}
 use Rattle.lists.specs.Tests.{every}
 use Rattle.lists.proofs.Tests.{both}
-use Rattle.lists.proofs.Every.{and-true}
 use Rattle.words.specs.Answers.{ofPair, lent}
 use Rattle.tables.specs.Bounds.{LOG}
 use Rattle.tables.specs.Values.{freeOf, packFree, liveOf, packLive, holesOf, packHoles, zombiesOf, packZombies, pagesOf, packPages, rootsOf, packRoots, tablesOf, inOrder, poolOf}
@@ -43,6 +42,7 @@ use Rattle.judge_rules.specs.declared.Verdict.the-variants.{Accepted}
 use Rattle.replay_lines.specs.Traced.{lineOf}
 use Rattle.agreement.specs.Runs.{Lent, Opening, opened, entry, traceFrom, traceOf}
 use Rattle.agreement.specs.Premises as Premises
+use Rattle.agreement.proofs.Reading.{every-append}
 use Rattle.agreement.proofs.FewMapped.{accepted-few}
 
 -- the pages that are mapped after these lines
@@ -73,12 +73,6 @@ record Exceeding (m : List ℕ) (ls : List Line) : Type 0 where
   reliable : every Premises.reliable ls ≡ true
   credible : every Premises.credible ls ≡ true
   many : mostMapped < length (mappedIn m ls)
-
-every-append : (p : Line → Bool) (l r : List Line) → every p l ≡ true → every p r ≡ true → every p (l ++ r) ≡ true
-every-append p [] r e f = f
-every-append p (x ∷ l) r e f =
-    let b = both (p x) (every p l) e in
-    and-true (p x) (every p (l ++ r)) (b .0) (every-append p l r (b .1) f)
 
 mapped-append : (m : List ℕ) (l r : List Line) → mappedIn m (l ++ r) ≡ mappedIn (mappedIn m l) r
 mapped-append m [] r = refl

@@ -1,8 +1,8 @@
 -- The missing pages. A handle that the pool finds not to be active is held by nobody, so that the judge takes it, and no mapped page has it; the page is
--- mapped in hand, where nothing is. Where the creation fails, what was made is rolled back.
+-- mapped in hand, where nothing is. One that is active is held, so that the judge rejects it by R2. Where the creation fails, what was made is rolled back.
 use mathlib.Core.Path.{_≡_, refl, ap, sym}
 use mathlib.Core.Logic.{_⊎_, inl, inr, ⊎-elim}
-use mathlib.Core.Bool.{Bool, true, false, false≢true}
+use mathlib.Core.Bool.{Bool, true, false}
 use mathlib.Core.List.{List, [], _∷_}
 use Prim.Native.Nat.{ℕ, zero, suc, _+_, _-_, _*_, _≤_, _<_, _%_, _/_}
 use native.Mathlib.Omega.{arith}
@@ -43,10 +43,11 @@ use Rattle.judge_rules.specs.Verdict.{recorded, ruled, sized, withHeld, placed}
 use Rattle.judge_rules.specs.declared.Run.{Run}
 use Rattle.agreement.specs.Premises.{mappedBy}
 use Rattle.agreement.specs.Agrees.{heldAt, Serving, Agreeing, Ends}
-use Rattle.agreement.specs.Judges.{Reach, Fair, addresses, Judges}
-use Rattle.agreement.proofs.Judges.{judges-from, judges-to, judges-and, judges-then, judges-give, judges-given, judges-looked, judges-change, judges-endIf, judges-never}
-use Rattle.agreement.proofs.Words.{Accepts, Heard, Excuses, reach-word, reach-failed, fair-code, judges-unless, judges-must}
-use Rattle.agreement.proofs.Meets.{held-none, aligned-below, agrees-inside, agrees-seen}
+use Rattle.agreement.specs.Judges.{Reach, Breaks, Fair, addresses, Judges}
+use Rattle.agreement.proofs.Judges.{judges-from, judges-to, judges-and, judges-then, judges-give, judges-given, judges-looked, judges-looked-at, judges-change, judges-endIf, judges-never}
+use Rattle.agreement.proofs.Words.{Accepts, Heard, Excuses, reach-word, reach-failed, breaks-word, fair-code, judges-unless, judges-must}
+use Rattle.agreement.proofs.Same.{any-is}
+use Rattle.agreement.proofs.Meets.{held-some, held-none, aligned-below, agrees-inside, agrees-seen}
 use Rattle.agreement.proofs.Agrees.{agrees-as}
 use Rattle.agreement.proofs.Handles.{agrees-created, meets-map, agrees-mapped}
 use Rattle.agreement.proofs.RollBack.{Alone, Fresh, judges-rollBack}
@@ -54,6 +55,15 @@ use Rattle.agreement.proofs.RollBack.{Alone, Fresh, judges-rollBack}
 -- the page at `a` is active
 abbrev withPage : ℕ → ℕ → Tables → Tables
 withPage a h t = withPages (put at (page a h) (t .pages)) t
+
+-- an active handle counts
+active-counted : (h : ℕ) (l : List Pool.Page) → isActive h l ≡ true → 0 < handlesAt l h
+active-counted h l e = ⊎-elim (λ (q : 0 < handlesAt l h). q) (λ (q : handlesAt l h ≤ 0). absurd (none (omega arith))) (cases-lt 0 (handlesAt l h))
+  where
+    none : handlesAt l h ≡ 0 → ⊥
+    none z =
+        let r = any-is (λ (g : Pool.Page). eqb (g .handle .0) h) l e in
+        member-all _ (r .0) l (r .1 .0) (none-counted (λ (g : Pool.Page). g .handle .0) h l z) (eqb-true (r .0 .handle .0) h (r .1 .1))
 
 module _ {run : Run} (serving : Serving run) where
   -- What the judge has of the pages made from `s` up to `a`; the same beside what the tables have.
@@ -70,6 +80,14 @@ module _ {run : Run} (serving : Serving run) where
     fresh : Fresh s a t z
     active : handlesAt (t .pages) h ≡ 0
     mapped : All (λ q. q .handle ≡ h → ⊥) (z .mapped)
+
+  -- A handle that is active is held, so that the judge rejects it.
+  breaks-create : {new : ℕ → ℕ} {t : Tables} {z : Judge} → Agreeing run new [] t z → (h p : ℕ) → isActive h (t .pages) ≡ true →
+      Breaks z (ofRecord (Words.create h p 0) ∷ [])
+  unfolding recorded ruled R2
+  breaks-create {new} {t} {z} g h p e =
+      let held : 0 < heldAt (z .held) h = omega (arith, active-counted h (t .pages) e, g .held (λ i. equal i h)) in
+      breaks-word Create h p z (agrees-inside serving g) (inr (rw (agrees-seen serving g, held-some (z .held) h held)))
 
   module _ {lost : ℕ → ℕ} {p f k s n a : ℕ} {t : Tables} {z : Judge} where
     -- The active handles are those held, so that one which is not active is held by nobody.
@@ -174,11 +192,13 @@ module _ {run : Run} (serving : Serving run) where
     tests : (h : ℕ) → Judges (Holding lost p f k s n a h) (created o a (Done h)) (λ _. Holding lost p f k s n a h) (Ends run lost)
     unfolding created
     tests h =
-        judges-looked (λ u.
+        judges-from (λ t z r. (r .active, r))
+        (judges-looked-at (λ u gone.
         judges-from (λ t z q. rw (q .0) (q .1))
         (judges-then (λ _. Holding lost p f k s n a h) (judges-give tt) (λ _.
         judges-then (λ _. Holding lost p f k s n a h) (judges-give tt) (λ _.
-        judges-to (λ _ t z q. q .0) (judges-endIf (isActive h (u .pages)) Incredible (λ t z q e x. absurd (false≢true (sym x))))))))
+        judges-to (λ _ t z q. q .0)
+        (judges-endIf (isActive h (u .pages)) Incredible (λ t z q e. absurd (omega (arith, gone, active-counted h (u .pages) e)))))))))
 
     rolls : Judges (MadeTo lost p f (suc k) s n a) (created o a (Failed 2)) (λ _ _ _. ⊥) (Ends run lost)
     unfolding created
@@ -198,19 +218,22 @@ module _ {run : Run} (serving : Serving run) where
       abbrev makesPage : Answer → Act
       makesPage x = created o a x >> (mapPage a (valueOf x) >> rest)
 
-      reads-handle : (h : ℕ) (t : Tables) (z : Judge) → MadeTo lost p f (suc k) s n a t z →
-          Reach z (ofRecord (Words.create h p 0) ∷ []) (Answered (Done h) t) ⊎ ((xs : List ℕ) (j : ℕ) → Excuses (makesPage (Done h) xs j t .ending))
+      -- what reading the answer may come to
+      abbrev Heeds : Answer → Tables → Judge → Type 0
+      Heeds x t z =
+          let ls = ofRecord (Words.create (valueOf x) p (codeOf x)) ∷ [] in
+          Reach z ls (Answered x t) ⊎ (Breaks z ls × ((xs : List ℕ) (j : ℕ) → Excuses (makesPage x xs j t .ending)))
+
+      reads-handle : (h : ℕ) (t : Tables) (z : Judge) → MadeTo lost p f (suc k) s n a t z → Heeds (Done h) t z
       unfolding created _>>=_
       reads-handle h t z w = go (isActive h (t .pages)) refl
         where
-          go : (b : Bool) → isActive h (t .pages) ≡ b →
-              Reach z (ofRecord (Words.create h p 0) ∷ []) (Answered (Done h) t) ⊎ ((xs : List ℕ) (j : ℕ) → Excuses (makesPage (Done h) xs j t .ending))
-          go true e = inr (λ xs j. rw e refl)
+          go : (b : Bool) → isActive h (t .pages) ≡ b → Heeds (Done h) t z
+          go true e = inr (breaks-create (w .1 .0) h p e, λ xs j. rw e refl)
           go false e = inl (reach-word Create h p z _ (accepts-create w h e))
 
       reads-answer : (x : Answer) (t : Tables) (z : Judge) → Heard x → MadeTo lost p f (suc k) s n a t z →
-          Fair (addresses (z .mapped)) (ofRecord (Words.create (valueOf x) p (codeOf x)) ∷ []) →
-          Reach z (ofRecord (Words.create (valueOf x) p (codeOf x)) ∷ []) (Answered x t) ⊎ ((xs : List ℕ) (j : ℕ) → Excuses (makesPage x xs j t .ending))
+          Fair (addresses (z .mapped)) (ofRecord (Words.create (valueOf x) p (codeOf x)) ∷ []) → Heeds x t z
       reads-answer (Done h) t z y w fair = reads-handle h t z w
       reads-answer (Failed c) t z y w fair =
           let g = w .1 .0 in

@@ -8,6 +8,7 @@ use borrow.Author.Tests.{eqb-true, ne-eqb}
 use lib.Dec.{ltb, eqb}
 use lib.ListN.{length}
 use Rattle.lists.proofs.Tests.{neither}
+use Rattle.lists.proofs.Every.{and-true}
 use Rattle.tables.specs.Bounds.{LOG}
 use Rattle.tables.specs.Values.{Tables, opened, poolOf, noTables, closedPool}
 use Rattle.tables.specs.Outcomes.{numbers, is}
@@ -30,9 +31,11 @@ use Rattle.judge_rules.specs.declared.Call.the-variants.{Open}
 use Rattle.replay_lines.specs.Traced.{resultOf}
 use Rattle.agreement.specs.Runs as Runs
 use Rattle.agreement.specs.Runs.{Opening, entry}
+use Rattle.agreement.specs.Premises.{credible}
 use Rattle.agreement.specs.Agrees.{Inside, Serving, Agreeing, Ends}
 use Rattle.agreement.specs.Judges.{next, Reach, Fair, excused, Reached}
-use Rattle.agreement.proofs.Entries.{step-result, fair-records, reach-entry}
+use Rattle.agreement.proofs.Reading.{reach-to}
+use Rattle.agreement.proofs.Entries.{step-result, credible-result, fair-records, reach-entry}
 use Rattle.agreement.proofs.Standing.{Standing, stands, agrees-run}
 use Rattle.agreement.proofs.Open.{judges-openSteps}
 
@@ -50,6 +53,10 @@ module _ (page va initial : ℕ) (positive : 0 < page) where
   step-open : Verdict.step Verdict.start (Good line) ≡ Verdict.on begun
   unfolding said Verdict.judged Verdict.taken Verdict.ruled R0
   step-open = let some : page ≡ 0 → ⊥ = λ e. omega arith in rw (ne-eqb page 0 some)
+
+  credible-open : credible line ≡ true
+  unfolding credible said
+  credible-open = refl
 
   serving : Serving (begun .run)
   serving = record { inside = record { opened = refl; waiting = refl; over = refl }; keeps = λ z. refl }
@@ -88,6 +95,7 @@ module _ (page va initial : ℕ) (positive : 0 < page) where
             (step-result (numbers o .first) (numbers o .second) (numbers o .number) y inside
             ∙ (ap (λ m. cond (eqb m 0) (Verdict.answered (y .run .asked .call) (Verdict.told y) (numbers o .first) (numbers o .second)) (Verdict.on (Verdict.told y))) z
             ∙ ap (λ c. Verdict.answered c (Verdict.told y) (numbers o .first) (numbers o .second)) call));
+        credible = and-true _ true (credible-result (numbers o .first) (numbers o .second) (numbers o .number) (zero-else o 15 e (λ q. omega arith))) refl;
         holds = stands (record {
           tables = t;
           lost = none;
@@ -103,10 +111,10 @@ module _ (page va initial : ℕ) (positive : 0 < page) where
   result-accepted : (ls : List Line) (t : Tables) (e : Ending Outcome) → is 0 (outcomeOf e) ≡ true →
       Reached (λ o t y. OpenedKept t × Agreeing (begun .run) none [] t y) (Ends (begun .run) none) begun ls t e →
       Reach begun ls (λ y. Reach y (resultOf (numbers (outcomeOf e)) ∷ []) (Standing (poolOpened t (outcomeOf e))))
-  result-accepted ls t (on o) e r = record { state = r .state; reads = r .reads; holds = opened-read o t (r .state) e (r .holds .0) (r .holds .1) }
+  result-accepted ls t (on o) e r = reach-to (λ y q. opened-read o t y e (q .0) (q .1)) r
   result-accepted ls t (ends o) e r =
       let x : excused o ≡ false = rw (zero-else o 15 e (λ q. omega arith), zero-else o 17 e (λ q. omega arith)) in
-      absurd (false≢true (sym (neither (is 0 o) (is 14 o) (r x .holds .1 .0) .0) ∙ e))
+      absurd (false≢true (sym (neither (is 0 o) (is 14 o) (r .reaches x .holds .1 .0) .0) ∙ e))
 
 opening-read : (page va initial stream : ℕ) (xs : List ℕ) → Configured page va initial →
     let r = openFinished (openSteps initial stream xs 0 (noTables page va)) in
@@ -119,7 +127,8 @@ opening-read page va initial stream xs c e fair =
     let ls = map ofRecord (w .records) in
     let res = resultOf (numbers (outcomeOf (w .ending))) in
     let f = fair-records Verdict.start z (openLine page va initial) read ls res fair in
-    reach-entry Verdict.start z (openLine page va initial) read ls res (Standing (poolOpened (w .tables) (outcomeOf (w .ending))))
+    let plain = credible-open page va initial (c .positive) in
+    reach-entry Verdict.start z (openLine page va initial) read plain ls res (Standing (poolOpened (w .tables) (outcomeOf (w .ending))))
     (result-accepted page va initial (c .positive) ls (w .tables) (w .ending) e
     (judges-openSteps (serving page va initial (c .positive)) page va initial stream c .reads xs 0 (noTables page va) z (refl, agrees-begun page va initial (c .positive)) f))
 

@@ -1,6 +1,7 @@
 -- What the judge does with lines, one list after another, and how the premises go with it: the pages that the lines map are those that the judge's state
 -- has.
 use mathlib.Core.Path.{_≡_, refl, ap, sym, _∙_}
+use mathlib.Core.Logic.{inl, inr}
 use mathlib.Core.Bool.{Bool, true, false, cond, not}
 use mathlib.Core.List.{List, [], _∷_, _++_}
 use Prim.Native.Nat.{ℕ}
@@ -36,9 +37,9 @@ use Rattle.judge_rules.specs.declared.Call.the-variants.{Open, Malloc, Free, Cl
 use Rattle.judge_rules.specs.declared.Said.{Said}
 use Rattle.judge_rules.specs.declared.Said.the-variants.{Record, Call as Calls, Result, Unknown}
 use Rattle.judge_rules.proofs.PageLaws.{filter-map}
-use Rattle.judge_rules.proofs.Keeps.{ruled-on, sized-on, on-on}
-use Rattle.agreement.specs.Premises.{reliable, mappedBy, mappedAfterBy, mappedAfter, fewMapped}
-use Rattle.agreement.specs.Judges.{next, read, Fair, addresses}
+use Rattle.judge_rules.proofs.Steps.{ruled-on, sized-on, on-on}
+use Rattle.agreement.specs.Premises.{reliable, credible, mappedBy, mappedAfterBy, mappedAfter, fewMapped}
+use Rattle.agreement.specs.Judges.{next, read, Reach, Breaks, Fair, addresses}
 
 -- a step that the judge goes on from
 pub went-on : (x : Verdict.Step) (f : Judge → Verdict.Step) (z : Judge) → next x f ≡ Verdict.on z → (y : Judge) × ((x ≡ Verdict.on y) × (f y ≡ Verdict.on z))
@@ -51,6 +52,44 @@ read-append s [] rs z e = rw (on-on s z e)
 read-append s (l ∷ ls) rs z e =
     let w = went-on (Verdict.step s (Good l)) (λ y. read y ls) z e in
     rw (w .1 .0) (read-append (w .0) ls rs z (w .1 .1))
+
+-- where a line is rejected, so are the lines with more behind them, and those with lines before them that are read
+read-both : (ls rs : List Line) (s : Judge) → read s (ls ++ rs) ≡ next (read s ls) (λ z. read z rs)
+read-both [] rs s = refl
+read-both (l ∷ ls) rs s = go (Verdict.step s (Good l)) (read-both ls rs)
+  where
+    go : (x : Verdict.Step) → ((z : Judge) → read z (ls ++ rs) ≡ next (read z ls) (λ y. read y rs)) →
+        next x (λ z. read z (ls ++ rs)) ≡ next (next x (λ z. read z ls)) (λ y. read y rs)
+    go (Verdict.on z) more = more z
+    go (Verdict.broken rule) more = refl
+    go (Verdict.beyond which) more = refl
+
+pub breaks-first : (s : Judge) (ls rs : List Line) → Breaks s ls → Breaks s (ls ++ rs)
+breaks-first s ls rs (inl e) = inl (rw (read-both ls rs s, e))
+breaks-first s ls rs (inr e) = inr (rw (read-both ls rs s, e))
+
+pub breaks-second : (s : Judge) (ls rs : List Line) (z : Judge) → read s ls ≡ Verdict.on z → Breaks z rs → Breaks s (ls ++ rs)
+breaks-second s ls rs z e (inl q) = inl (read-append s ls rs z e ∙ q)
+breaks-second s ls rs z e (inr q) = inr (read-append s ls rs z e ∙ q)
+
+pub every-append : (p : Line → Bool) (l r : List Line) → every p l ≡ true → every p r ≡ true → every p (l ++ r) ≡ true
+every-append p [] r e f = f
+every-append p (x ∷ l) r e f =
+    let b = both (p x) (every p l) e in
+    and-true (p x) (every p (l ++ r)) (b .0) (every-append p l r (b .1) f)
+
+-- lines that are read, to less; and one list after another
+pub reach-to : {s : Judge} {ls : List Line} {Q R : Judge → Type 0} → ((z : Judge) → Q z → R z) → Reach s ls Q → Reach s ls R
+reach-to f r = record { state = r .state; reads = r .reads; credible = r .credible; holds = f (r .state) (r .holds) }
+
+pub reach-then : {s : Judge} {ls rs : List Line} {Q R : Judge → Type 0} (one : Reach s ls Q) → Reach (one .state) rs R → Reach s (ls ++ rs) R
+reach-then {s} {ls} {rs} one two =
+    record {
+      state = two .state;
+      reads = read-append s ls rs (one .state) (one .reads) ∙ two .reads;
+      credible = every-append credible ls rs (one .credible) (two .credible);
+      holds = two .holds;
+    }
 
 ended-mapped : (c : Call) (s : Judge) → Verdict.ended c s .mapped ≡ s .mapped
 ended-mapped Open s = refl

@@ -226,4 +226,4 @@ module _ {run : Run} (serving : Serving run) where
         (judges-then (λ _. RollingBack lost s (o .size) [])
         (judges-each (RollingBack lost s (o .size)) (unmakes lost s (o .size)) (newPages o a (u .pages))) (λ _.
         judges-then (λ _. Ended run (OutOfMemory (o .missing) (a - s))) (judges-change _ (λ t z r. (refl, rollback-ends t z r))) (λ _.
-        judges-end (OutOfMemory (o .missing) (a - s)) {Q = λ _ _ _. ⊥}))))))
+        judges-end (OutOfMemory (o .missing) (a - s)) refl {Q = λ _ _ _. ⊥}))))))

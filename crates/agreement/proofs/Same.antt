@@ -68,6 +68,9 @@ module _ {A B : Type 0} {f : B → A} {l : List A} {m : List B} (same : SameBy f
   pub same-every : (p : A → Bool) → every (λ x. p (f x)) m ≡ true → every p l ≡ true
   same-every p e = missed-every p l (same .sums (λ x. missed (p x)) ∙ every-missed (λ x. p (f x)) m e)
 
+  pub same-every-back : (p : A → Bool) → every p l ≡ true → every (λ x. p (f x)) m ≡ true
+  same-every-back p e = missed-every (λ x. p (f x)) m (sym (same .sums (λ x. missed (p x))) ∙ every-missed p l e)
+
   pub same-any : (p : A → Bool) → any (λ x. p (f x)) m ≡ true → any p l ≡ true
   same-any p e = passed-any p l (rw (same .sums (λ x. passed (p x))) (any-passed (λ x. p (f x)) m e))
 

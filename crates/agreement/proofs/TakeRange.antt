@@ -1,15 +1,16 @@
 -- Taking a range. A hole that is cut tells the judge nothing. A new root is read as a reservation: the judge finds its base credible just where the pool does,
--- since the reservations are the roots; where the pool does not, the call ends in 15.
+-- since the reservations are the roots; where the pool does not, the call ends in 15 and the judge rejects the record by R1.
 use mathlib.Core.Path.{_≡_, refl, ap, sym, _∙_}
 use mathlib.Core.Logic.{_⊎_, inl, inr}
-use mathlib.Core.Bool.{Bool, true, false, not, false≢true}
+use mathlib.Core.Bool.{Bool, true, false, _&&_, not, false≢true}
 use mathlib.Core.List.{List, [], _∷_, _++_}
 use mathlib.Core.Option.{Option, some, none}
 use Prim.Native.Nat.{ℕ, suc, _+_, _-_, _≤_, _<_, _%_}
 use native.Mathlib.Omega.{arith}
-use borrow.Author.Tests.{leb-true, le-leb, eq-eqb, ne-eqb}
+use borrow.Author.Tests.{not-true, leb-true, le-leb, eq-eqb, ne-eqb}
 use lib.Dec.{leb, eqb}
 use lib.ListN.{length}
+use Rattle.lists.specs.Tests.{every}
 use Rattle.lists.proofs.Tests.{both}
 use Rattle.words.specs.Words as Words
 use Rattle.words.specs.Answers.{codeOf, valueOf, failed}
@@ -36,12 +37,19 @@ use Rattle.judge_rules.specs.Rules as Rules
 use Rattle.judge_rules.specs.Verdict.{recorded, ruled, sized, reserved}
 use Rattle.judge_rules.specs.declared.Run.{Run}
 use Rattle.agreement.specs.Agrees.{Serving, Agreeing, Ended, Ends}
-use Rattle.agreement.specs.Judges.{Reach, Judges}
+use Rattle.agreement.specs.Judges.{Reach, Breaks, Judges}
 use Rattle.agreement.proofs.Judges.{judges-from, judges-to, judges-and, judges-then, judges-give, judges-end, judges-given, judges-looked, judges-known, judges-change, judges-endIf, judges-never}
-use Rattle.agreement.proofs.Words.{Accepts, Heard, Excuses, reach-word, reach-failed, judges-unless}
-use Rattle.agreement.proofs.Same.{same-every, same-push, same-length}
+use Rattle.agreement.proofs.Words.{Accepts, Heard, Excuses, reach-word, reach-failed, breaks-word, judges-unless}
+use Rattle.agreement.proofs.Same.{same-every, same-every-back, same-push, same-length}
 use Rattle.agreement.proofs.Meets.{agrees-inside, agrees-seen}
 use Rattle.agreement.proofs.Agrees.{agrees-page, agrees-holes}
+
+first-four : (a b c d x y z : Bool) → (a && b && c && d && x && y && z) ≡ true → (a ≡ true) × ((b ≡ true) × ((c ≡ true) × (d ≡ true)))
+first-four true true true true x y z e = (refl, (refl, (refl, refl)))
+first-four false b c d x y z e = absurd (false≢true e)
+first-four true false c d x y z e = absurd (false≢true e)
+first-four true true false d x y z e = absurd (false≢true e)
+first-four true true true false x y z e = absurd (false≢true e)
 
 module _ {run : Run} (serving : Serving run) where
   module _ {u : Tables} {s : Judge} (g : Agreeing run S.none [] u s) (small : u .fields .va ≤ VA) (whole : Whole (u .fields .page) (u .fields .va)) (b : ℕ) (c : credible b u ≡ true) where
@@ -93,6 +101,27 @@ module _ {run : Run} (serving : Serving run) where
           holds = r;
         }
 
+  module _ {u : Tables} {s : Judge} (g : Agreeing run S.none [] u s) (small : u .fields .va ≤ VA) (b : ℕ) where
+    -- One that the judge finds credible, the pool does;
+    met-reserve : R1 s b (u .fields .va) ≡ true → credible b u ≡ true
+    unfolding credible R1 Rules.credible
+    met-reserve e =
+        let va = u .fields .va in
+        let others = every (λ r. Ranges.clear b va (r .base) (r .size)) (s .reservations) in
+        let q = first-four (not (eqb b 0)) (eqb (b % s .run .page) 0) (leb (b + va) END) others _ _ _ e in
+        let fits : b + va ≤ END = leb-true (b + va) END (q .1 .1 .0) in
+        let clear = same-every-back (g .reservations) (λ r. Ranges.clear b va (r .base) (r .size)) (q .1 .1 .1) in
+        rw (q .0, ← agrees-page g, q .1 .0, le-leb b (END - va) (omega arith), clear)
+
+    -- so it rejects one that the pool does not.
+    breaks-reserve : credible b u ≡ false → Breaks s (ofRecord (Words.reserve b (u .fields .va) 0) ∷ [])
+    unfolding recorded ruled
+    breaks-reserve e = breaks-word Reserve b (u .fields .va) s (agrees-inside serving g) (inl (rw (agrees-seen serving g, fails (R1 s b (u .fields .va)) refl)))
+      where
+        fails : (m : Bool) → R1 s b (u .fields .va) ≡ m → R1 s b (u .fields .va) ≡ false
+        fails true q = absurd (false≢true (sym e ∙ met-reserve q))
+        fails false q = q
+
   module _ (lost : ℕ → ℕ) (n : ℕ) (u : Tables) (kept : Kept lost u) (room : length (u .roots) < 16) where
     -- what the pool does with the answer
     abbrev takesRoot : Answer → Step ℕ
@@ -109,21 +138,25 @@ module _ {run : Run} (serving : Serving run) where
     Answered (Failed c) t s = (t ≡ u) × Agreeing run S.none [] u s
     Answered Missing t s = ⊥
 
-    reads-base : (b : ℕ) (t : Tables) (s : Judge) → (t ≡ u) × Agreeing run S.none [] u s →
-        Reach s (ofRecord (Words.reserve b (u .fields .va) 0) ∷ []) (Answered (Done b) t) ⊎ ((xs : List ℕ) (k : ℕ) → Excuses (takesRoot (Done b) xs k t .ending))
+    -- what reading the answer may come to
+    abbrev Heeds : Answer → Tables → Judge → Type 0
+    Heeds x t s =
+        let ls = ofRecord (Words.reserve (valueOf x) (u .fields .va) (codeOf x)) ∷ [] in
+        Reach s ls (Answered x t) ⊎ (Breaks s ls × ((xs : List ℕ) (k : ℕ) → Excuses (takesRoot x xs k t .ending)))
+
+    reads-base : (b : ℕ) (t : Tables) (s : Judge) → (t ≡ u) × Agreeing run S.none [] u s → Heeds (Done b) t s
     unfolding _>>=_
     reads-base b t s p = go (credible b u) refl
       where
-        go : (c : Bool) → credible b u ≡ c → Reach s (ofRecord (Words.reserve b (u .fields .va) 0) ∷ []) (Answered (Done b) t) ⊎ ((xs : List ℕ) (k : ℕ) → Excuses (takesRoot (Done b) xs k t .ending))
-        go false e = inr (λ xs k. rw e refl)
+        go : (c : Bool) → credible b u ≡ c → Heeds (Done b) t s
+        go false e = inr (breaks-reserve (p .1) (kept .sound .small) b e, λ xs k. rw e refl)
         go true e =
             let g = p .1 in
             let small = kept .sound .small in
             let whole = kept .sound .va in
             inl (reach-word Reserve b (u .fields .va) s _ (accepts-reserve g small whole b e room (p .0, (e, agrees-rooted g small whole b e n))))
 
-    reads-answer : (x : Answer) (t : Tables) (s : Judge) → Heard x → (t ≡ u) × Agreeing run S.none [] u s →
-        Reach s (ofRecord (Words.reserve (valueOf x) (u .fields .va) (codeOf x)) ∷ []) (Answered x t) ⊎ ((xs : List ℕ) (k : ℕ) → Excuses (takesRoot x xs k t .ending))
+    reads-answer : (x : Answer) (t : Tables) (s : Judge) → Heard x → (t ≡ u) × Agreeing run S.none [] u s → Heeds x t s
     reads-answer (Done b) t s y p = reads-base b t s p
     reads-answer (Failed c) t s y p =
         inl (reach-failed Reserve 0 (u .fields .va) c s (Answered (Failed c) t) y (agrees-inside serving (p .1)) (rw (agrees-seen serving (p .1)) p))
@@ -134,12 +167,12 @@ module _ {run : Run} (serving : Serving run) where
     roots-answer (Done b) =
         judges-then (λ _. Answered (Done b)) (judges-give tt) (λ _.
         judges-then (λ _. Answered (Done b))
-        (judges-to (λ _ t s q. q .0) (judges-endIf (not (credible b u)) Incredible (λ t s p e x. absurd (false≢true (sym x))))) (λ _.
+        (judges-to (λ _ t s q. q .0) (judges-endIf (not (credible b u)) Incredible (λ t s p e. absurd (false≢true (sym (not-true (credible b u) e) ∙ p .1 .0))))) (λ _.
         judges-then (λ _ t s. (t ≡ withRoots (u .roots ++ address b ∷ []) u) × Agreeing run S.none [] (rooted n b u) s)
         (judges-change _ (λ t s p. (rw (p .0), p .1 .1))) (λ _.
         judges-then (λ _ t s. Agreeing run S.none [] t s) (judges-change _ (λ t s p. rw (p .0) (p .1))) (λ _. judges-give b))))
     roots-answer (Failed c) =
-        judges-then (λ _ _ _. ⊥) (judges-from (λ t s p. (refl, rw (p .0) (p .1))) (judges-end (ReserveFailed (u .fields .va) (u .fields .page)))) (λ _. judges-never)
+        judges-then (λ _ _ _. ⊥) (judges-from (λ t s p. (refl, rw (p .0) (p .1))) (judges-end (ReserveFailed (u .fields .va) (u .fields .page)) refl)) (λ _. judges-never)
     roots-answer Missing = judges-never
 
     reserves : Judges (λ t s. (t ≡ u) × Agreeing run S.none [] u s) (reserveRoot n) (λ _ t s. Agreeing run S.none [] t s) (Ended run)

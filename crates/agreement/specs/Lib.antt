@@ -3,3 +3,4 @@ pub mod Premises
 pub mod Agrees
 pub mod Judges
 pub mod Replays
+pub mod TrueAnswers

@@ -3,3 +3,6 @@ pub mod Rules
 pub mod Steps
 pub mod Calls
 pub mod Unchanged
+pub mod HolesBack
+pub mod PagesBack
+pub mod Leaves

@@ -130,14 +130,14 @@ module _ (F : Outcome → Type 0) (short : F AnswersRanOut) where
         ends-then F (moves-pages (pagesIn (t .fields .page) zs) a) (λ _.
         ends-then F (ends-must F short fails (drives-access a lacks)) (λ _. insertFree-ends a lacks (o .stream)))))
 
-    fills : (o : Room) (r : Option FreeRegion) → Ends F (fill o r)
+    pub fills : (o : Room) (r : Option FreeRegion) → Ends F (fill o r)
     unfolding fill
     fills o none = ends-looked F (λ t. pulls-in o (o .size) (t .free))
     fills o (some r) =
         ends-looked F (λ t.
         ends-cond F (leb (o .size) (r .size)) (ends-give F r) (pulls-in o (o .size - r .size) (withoutFree (from r) (t .free))))
 
-    inserts-new : (o : Room) → Ends F (insertNew o)
+    pub inserts-new : (o : Room) → Ends F (insertNew o)
     unfolding insertNew
     inserts-new o =
         ends-cond F (eqb (o .missing) 0) (ends-give F none)

@@ -2,7 +2,7 @@
 ghost use mathlib.Core.Path.{_≡_};
 ghost use mathlib.Core.Bool.{true};
 ghost use Rattle.tables.specs.WellFormed.{wellFormed};
-ghost use Rattle.pool_entry.specs.Promises.{Stands};
+ghost use Rattle.pool_entry.specs.Promises.{Stands, Tells};
 use tables::Pool;
 
 #[repr(C)]
@@ -22,7 +22,7 @@ pub extern "C" fn measured_passed(pool: Pool) -> Passed
 // The pool in, each number of it looked at once, and out.
 #[no_mangle]
 pub extern "C" fn measured_looked(pool: Pool) -> Passed
-    ensures { λ r. ⌜ (r .pool ≡ pool) × (r .sound ≡ true → Stands pool) ⌝ }
+    ensures { λ r. ⌜ (r .pool ≡ pool) × Tells (r .sound) (Stands pool) ⌝ }
 {
     let sound = pool_entry::stands(pool);
     Passed { pool, sound }

@@ -135,7 +135,10 @@ impl Pool {
                 if is_sound(q) {
                     let choice = find_buffer(q.live, address);
                     let Choice::At(at) = choice else {
-                        return leaving::refuse(Pool { value: q }, Ended::Ends(Outcome::InvalidPointer(address)));
+                        return leaving::refuse(
+                            Pool { value: q },
+                            Ended::Ends(Outcome::InvalidPointer(address)),
+                        );
                     };
                     let freed = free_steps(q.live, q.free, q.counter, at, answers, log, 0);
                     let outcome = freed.outcome;

@@ -1,3 +1,4 @@
+pub mod Answers
 pub mod Ran
 pub mod Endings
 pub mod Holds

@@ -172,11 +172,13 @@ pub fn is_complete(answers: &[u64], log: &mut [u64], made: usize, id: EventId) -
         (now (answers .entry)) made (now (log .entry)) (askedEnding r) (now (log .exit)) ⌝ }
 {
     let answer = ask(answers, log, made, id);
-    match answer {
-        Answer::Done(value) => Asked::Complete(value == 1),
-        Answer::Failed(_) => Asked::Complete(false),
-        Answer::Missing => Asked::Unasked,
-    }
+    let Answer::Done(value) = answer else {
+        let Answer::Failed(_) = answer else {
+            return Asked::Unasked;
+        };
+        return Asked::Complete(false);
+    };
+    Asked::Complete(value == 1)
 }
 
 // A failure ends the call with 14.
@@ -193,11 +195,13 @@ pub fn must_tell(
         (now (answers .entry)) made (now (log .entry)) (ending r) (now (log .exit)) ⌝ }
 {
     let answer = tell(answers, log, made, word, first, second);
-    match answer {
-        Answer::Done(_) => Ended::On,
-        Answer::Failed(code) => Ended::Ends(Outcome::DriverFailed(code)),
-        Answer::Missing => Ended::Ends(Outcome::AnswersRanOut),
-    }
+    let Answer::Done(_) = answer else {
+        let Answer::Failed(code) = answer else {
+            return Ended::Ends(Outcome::AnswersRanOut);
+        };
+        return Ended::Ends(Outcome::DriverFailed(code));
+    };
+    Ended::On
 }
 
 // A failure is ignored.
@@ -214,9 +218,11 @@ pub fn try_tell(
         (now (answers .entry)) made (now (log .entry)) (ending r) (now (log .exit)) ⌝ }
 {
     let answer = tell(answers, log, made, word, first, second);
-    match answer {
-        Answer::Done(_) => Ended::On,
-        Answer::Failed(_) => Ended::On,
-        Answer::Missing => Ended::Ends(Outcome::AnswersRanOut),
-    }
+    let Answer::Done(_) = answer else {
+        let Answer::Failed(_) = answer else {
+            return Ended::Ends(Outcome::AnswersRanOut);
+        };
+        return Ended::On;
+    };
+    Ended::On
 }

@@ -1,140 +1,146 @@
--- What an accepted trace means: the judge's state knows what each line says, so after every number of lines the live buffers are sound.
+-- What an accepted trace means: every line with which nothing is wrong keeps the live buffers sound.
 use mathlib.Core.Path.{_≡_, refl, ap, sym, _∙_}
 use mathlib.Core.Bool.{Bool, true, false, cond, not, false≢true}
 use mathlib.Core.List.{List, [], _∷_}
-use mathlib.Core.Option.{Option}
-use Prim.Native.Nat.{ℕ, zero, suc, _+_}
+use mathlib.Core.Option.{Option, none, some}
+use Prim.Native.Nat.{ℕ, zero, suc, _+_, _<_}
 use native.Mathlib.Omega.{arith}
-use borrow.Author.Tests.{not-true}
+use borrow.Author.Tests.{eqb-false, not-true}
 use lib.Dec.{eqb}
-use lib.ListN.{take}
-use Rattle.lists.proofs.Tests.{both, all-filter}
+use lib.ListN.{take, drop}
+use Rattle.lists.proofs.Tests.{both}
+use Rattle.words.specs.declared.Word.{Word}
+use Rattle.words.specs.declared.Word.the-variants.{Reserve, Create, Map, Access, Unmap, Release, Record as RecordEvent, Asked as AskedFor, Wait, Sync, Giveback}
 use Rattle.trace.specs.declared.Line.{Line}
 use Rattle.trace.specs.declared.Reading.{Reading}
 use Rattle.trace.specs.declared.Reading.the-variants.{Good, Malformed}
-use Rattle.judge_rules.specs.Said.{said, ifOpen, askedBy}
-use Rattle.judge_rules.specs.Rules.{Judge, openFirst, R0, R7}
-use Rattle.judge_rules.specs.Verdict.{Step, on, broken, beyond, recorded, handed, freed, closed, answered, ended, called, told, taken, judged, step, onward, verdictFrom, start, verdict}
-use Rattle.judge_rules.specs.Meaning.{sizeBy, pageSize, call, movedBy, underBy, under, Buffer, answeredBy, endedBy, liveBy, live, Sound, SoundAfter, newestFirst}
+use Rattle.judge_rules.specs.Said.{said}
+use Rattle.judge_rules.specs.Rules.{R0}
+use Rattle.judge_rules.specs.Verdict.{verdict}
+use Rattle.judge_rules.specs.SoFar.{place, pageSize, call, reservations, held, mapped, last}
+use Rattle.judge_rules.specs.Meaning.{shown, Buffer, leftBy, live, SoundAfter, newestFirst}
+use Rattle.judge_rules.specs.Exactly.{begun, known, untested, atRecord, ruleOf, ruleOfRecord, ruleOfResult, sizeOf, breaks, passes, faultOf, faultIn}
 use Rattle.judge_rules.specs.declared.Call.{Call}
 use Rattle.judge_rules.specs.declared.Call.the-variants.{Open, Malloc, Free, Close}
 use Rattle.judge_rules.specs.declared.Said.{Said}
 use Rattle.judge_rules.specs.declared.Said.the-variants.{Record, Call as Calls, Result, Unknown}
 use Rattle.judge_rules.specs.declared.Verdict.the-variants.{Accepted}
-use Rattle.judge_rules.proofs.PageLaws.{pairs-filter, filter-map}
-use Rattle.judge_rules.proofs.Keeps.{plain, Knows, ruled-on, sized-on, on-on, become, sound-none, knows-record, knows-ended, sound-more}
+use Rattle.judge_rules.proofs.PageLaws.{some-not}
+use Rattle.judge_rules.proofs.Keeps.{Firm, Upheld, sound-of, firm-none, firm-filter, with-buffers, keeps-reserve, keeps-create, keeps-map, keeps-unmap, keeps-release, keeps-giveback}
+use Rattle.judge_rules.proofs.HandsOver.{keeps-handed}
+use Rattle.judge_rules.proofs.Exactly.{exactly}
 
--- A result of answer 0.
-module _ (s : Judge) (u : ℕ → Option ℕ) (bs : List Buffer) (a b : ℕ) (o : s .run .opened ≡ true) (g : Knows s (s .run .page) (s .run .asked) u bs) where
-  knows-malloc : R7 s a b ≡ true → Knows (handed s a b) (s .run .page) (s .run .asked) u (answeredBy (s .run .asked) Malloc (s .run .page) a b u bs)
-  knows-malloc r =
-      record {
-        page = refl;
-        asked = refl;
-        mapped = g .mapped;
-        live = ap (λ l. record { start = a; size = b; stream = s .run .asked .second } ∷ l) (g .live);
-        idle = λ e. absurd (false≢true (sym e ∙ o));
-        sound = sound-more s u bs a b g r;
-      }
+-- What the lines so far uphold.
+abbrev UpheldBy : List Line → List Buffer → Type 0
+UpheldBy h bs = Upheld (pageSize h) (reservations h) (held h) (mapped h) bs
 
-  knows-free : Knows (freed s) (s .run .page) (s .run .asked) u (answeredBy (s .run .asked) Free (s .run .page) a b u bs)
-  knows-free =
-      let t : Buffer → Bool = λ x. not (eqb (x .start) (s .run .asked .first)) in
-      record {
-        page = refl;
-        asked = refl;
-        mapped = g .mapped;
-        live = rw (g .live) (filter-map (λ x. not (eqb (x .start) (s .run .asked .first))) plain bs);
-        idle = λ e. absurd (false≢true (sym e ∙ o));
-        sound =
-            record {
-              apart = pairs-filter _ t bs (g .sound .apart);
-              kept = all-filter _ t bs (g .sound .kept);
-              own = pairs-filter _ t bs (g .sound .own);
-              once = all-filter _ t bs (g .sound .once);
-            };
-      }
+record UpheldAfter (h : List Line) : Type 0 where
+  page : begun h ≡ true → 0 < pageSize h
+  upheld : UpheldBy h (live h)
 
-  knows-answer : (c : Call) (z : Judge) → answered c s a b ≡ on z → Knows z (s .run .page) (s .run .asked) u (answeredBy (s .run .asked) c (s .run .page) a b u bs)
-  unfolding answered
-  knows-answer Open z e = become (on-on s z e) g
-  knows-answer Malloc z e =
-      let j = ruled-on _ _ _ z e in
-      become (sized-on _ _ _ _ z (j .1)) (knows-malloc (j .0))
-  knows-answer Free z e = become (on-on _ z (ruled-on _ _ _ z e .1)) knows-free
-  knows-answer Close z e =
-      become (on-on (closed s) z e) (record { page = refl; asked = refl; mapped = g .mapped; live = g .live; idle = g .idle; sound = g .sound })
+-- nothing is wrong, so each test is passed
+passed : (a r z : Bool) (n w : ℕ) → cond (not a) (some (breaks 0)) (cond (not r) (some (breaks n)) (cond (not z) (some (passes w)) none)) ≡ none → (a ≡ true) × (r ≡ true)
+passed true true z n w e = (refl, refl)
+passed true false z n w e = absurd (some-not (breaks n) e)
+passed false r z n w e = absurd (some-not (breaks 0) e)
 
--- A line.
-sound-call : (c : Call) (s : Judge) (l : Line) (u : ℕ → Option ℕ) (bs : List Buffer) → openFirst (Calls c) (s .run) l ≡ true → Knows s (s .run .page) (s .run .asked) u bs →
-    Sound (ifOpen c (l .first) (s .run .page)) u bs
-sound-call Open s l u bs o g =
-    let f = both (not (s .run .opened)) _ o in
-    rw (g .idle (not-true (s .run .opened) (f .0))) (sound-none (l .first) u)
-sound-call Malloc s l u bs o g = g .sound
-sound-call Free s l u bs o g = g .sound
-sound-call Close s l u bs o g = g .sound
+unknown : (h : List Line) (l : Line) → R0 Unknown (known h .run) l ≡ true → ⊥
+unfolding R0
+unknown h l r = false≢true (both (begun h) false r .1)
 
-knows-line : (w : Said) (s : Judge) (l : Line) (u : ℕ → Option ℕ) (bs : List Buffer) (z : Judge) → openFirst w (s .run) l ≡ true →
-    Knows s (s .run .page) (s .run .asked) u bs → taken w s l ≡ on z →
-    Knows z (sizeBy w l (s .run .page)) (askedBy w l (s .run .asked)) (λ x. underBy w l x (u x)) (liveBy w l (s .run .page) (s .run .asked) u bs)
-unfolding taken
-knows-line (Calls c) s l u bs z o g e =
-    become (on-on (called c s l) z e)
-    (record { page = refl; asked = refl; mapped = g .mapped; live = g .live; idle = λ e. absurd (false≢true (sym e)); sound = sound-call c s l u bs o g })
-knows-line (Record w) s l u bs z o g e = go (eqb (l .third) 0) e
-  where
-    s1 : Judge
-    s1 = ended (s .run .asked .call) s
+module _ (h : List Line) (l : Line) (g : UpheldAfter h) where
+  -- an open comes first, and then there is nothing yet
+  opened : said (l .kind) ≡ Calls Open → begun h ≡ false → (l .first ≡ 0 → ⊥) → UpheldAfter (l ∷ h)
+  opened e o z = go h o
+    where
+      go : (h : List Line) → begun h ≡ false → UpheldAfter (l ∷ h)
+      go [] o = record { page = λ _. rw e (omega arith); upheld = rw e (record { owned = tt; placed = tt; sized = tt; reserved = tt; firm = firm-none _ _ }) }
+      go (k ∷ h) o = absurd (false≢true (sym o))
 
-    b1 : List Buffer
-    b1 = endedBy (s .run .asked .call) bs
+  called : (c : Call) → said (l .kind) ≡ Calls c → R0 (Calls c) (known h .run) l ≡ true → UpheldAfter (l ∷ h)
+  unfolding R0
+  called Open e r =
+      let o = both (not (begun h)) (not (eqb (l .first) 0)) (both _ _ r .0) in
+      opened e (not-true (begun h) (o .0)) (eqb-false (l .first) 0 (not-true (eqb (l .first) 0) (o .1)))
+  called Malloc e r = record { page = λ _. rw e (g .page (both (begun h) _ r .0)); upheld = rw e (g .upheld) }
+  called Free e r = record { page = λ _. rw e (g .page (both (begun h) _ r .0)); upheld = rw e (g .upheld) }
+  called Close e r = record { page = λ _. rw e (g .page (both (begun h) _ r .0)); upheld = rw e (g .upheld) }
 
-    g1 : Knows s1 (s .run .page) (s .run .asked) u b1
-    g1 = knows-ended (s .run .asked .call) s (s .run .page) (s .run .asked) u bs g
+  -- a record leaves all live buffers, or none
+  left : UpheldBy h (leftBy h (live h))
+  left = with-buffers (leftBy h (live h)) (go (eqb (place (call h .call)) (place Close))) (g .upheld)
+    where
+      go : (b : Bool) → Firm (pageSize h) (shown h) (cond b [] (live h))
+      go true = firm-none _ _
+      go false = g .upheld .firm
 
-    go : (t : Bool) → cond t (recorded w s1 (l .first) (l .second)) (on s1) ≡ on z →
-        Knows z (s .run .page) (s .run .asked) (λ x. cond t (movedBy w (l .first) (l .second) x (u x)) (u x)) b1
-    go true e = knows-record w s1 (s .run .page) (s .run .asked) u b1 (l .first) (l .second) z g1 e
-    go false e = become (on-on s1 z e) g1
-knows-line Result s l u bs z o g e = go (eqb (l .third) 0) e
-  where
-    g1 : Knows (told s) (s .run .page) (s .run .asked) u bs
-    g1 = record { page = refl; asked = refl; mapped = g .mapped; live = g .live; idle = g .idle; sound = g .sound }
+  failed : (w : Word) → said (l .kind) ≡ Record w → eqb (l .third) 0 ≡ false → UpheldBy (l ∷ h) (live (l ∷ h))
+  failed w e q = rw (e, q) left
 
-    go : (t : Bool) → cond t (answered (s .run .asked .call) (told s) (l .first) (l .second)) (on (told s)) ≡ on z →
-        Knows z (s .run .page) (s .run .asked) u (cond t (answeredBy (s .run .asked) (s .run .asked .call) (s .run .page) (l .first) (l .second) u bs) bs)
-    go true e = knows-answer (told s) u bs (l .first) (l .second) o g1 (s .run .asked .call) z e
-    go false e = become (on-on (told s) z e) g1
-knows-line Unknown s l u bs z o g e = let y : _≡_ {A = ℕ} 0 1 = cc in absurd (omega arith)
+  done : (w : Word) → said (l .kind) ≡ Record w → eqb (l .third) 0 ≡ true → 0 < pageSize h → ruleOfRecord w (atRecord h) l .passed ≡ true → UpheldBy (l ∷ h) (live (l ∷ h))
+  done Reserve e q p r = rw (e, q) (keeps-reserve _ _ _ _ _ _ _ _ left r)
+  done Create e q p r = rw (e, q) (keeps-create _ _ _ _ _ _ _ 0 left _ r)
+  done Map e q p r = rw (e, q) (keeps-map _ _ _ _ _ _ _ _ left _ r)
+  done Access e q p r = rw (e, q) left
+  done Unmap e q p r = rw (e, q) (keeps-unmap _ _ _ _ _ _ _ _ left r)
+  done Release e q p r = rw (e, q) (keeps-release _ _ _ _ _ _ _ 0 left r)
+  done RecordEvent e q p r = rw (e, q) left
+  done AskedFor e q p r = rw (e, q) left
+  done Wait e q p r = rw (e, q) left
+  done Sync e q p r = rw (e, q) left
+  done Giveback e q p r = rw (e, q) (keeps-giveback _ _ _ _ _ _ _ _ left p r)
 
--- what the judge knows of the lines so far
-abbrev KnowsLines : Judge → List Line → Type 0
-KnowsLines s h = Knows s (pageSize h) (call h) (under h) (live h)
+  recorded : (w : Word) → said (l .kind) ≡ Record w → R0 (Record w) (known h .run) l ≡ true → ruleOf (Record w) h l .passed ≡ true → UpheldAfter (l ∷ h)
+  unfolding R0
+  recorded w e r t = record { page = λ _. rw e p; upheld = go (eqb (l .third) 0) refl t }
+    where
+      p : 0 < pageSize h
+      p = g .page (both (begun h) _ r .0)
 
-knows-step : (s z : Judge) (l : Line) (h : List Line) → KnowsLines s h → step s (Good l) ≡ on z → KnowsLines z (l ∷ h)
-unfolding judged R0
-knows-step s z l h g e =
-    let j = ruled-on _ _ _ z e in
-    let o = both (openFirst (said (l .kind)) (s .run) l) _ (j .0) in
-    let here : Knows s (s .run .page) (s .run .asked) (under h) (live h) =
-    record { page = refl; asked = refl; mapped = g .mapped; live = g .live; idle = g .idle; sound = rw (g .page) (g .sound) }
-    in
-    rw (g .page, g .asked) at (knows-line (said (l .kind)) s l (under h) (live h) z (o .0) here (j .1))
+      go : (b : Bool) → eqb (l .third) 0 ≡ b → cond b (ruleOfRecord w (atRecord h) l) untested .passed ≡ true → UpheldBy (l ∷ h) (live (l ∷ h))
+      go true q t = done w e q p t
+      go false q t = failed w e q
 
-means-from : (n : ℕ) (t : List Reading) (k : ℕ) (s : Judge) (h : List Line) → KnowsLines s h → verdictFrom k s t ≡ Accepted → SoundAfter (newestFirst h (take n t))
-means-from zero t k s h g e = g .sound
-means-from (suc n) [] k s h g e = g .sound
-means-from (suc n) (Malformed ∷ t) k s h g e = let y : _≡_ {A = ℕ} 0 1 = cc in absurd (omega arith)
-means-from (suc n) (Good l ∷ t) k s h g e = go (step s (Good l)) refl (λ z. means-from n t (k + 1) z (l ∷ h)) e
-  where
-    go : (r : Step) → step s (Good l) ≡ r → ((z : Judge) → KnowsLines z (l ∷ h) → verdictFrom (k + 1) z t ≡ Accepted → SoundAfter (newestFirst (l ∷ h) (take n t))) →
-        onward (k + 1) r (λ z. verdictFrom (k + 1) z t) ≡ Accepted → SoundAfter (newestFirst (l ∷ h) (take n t))
-    go (on z) q f e = f z (knows-step s z l h g q) e
-    go (broken rule) q f e = let y : _≡_ {A = ℕ} 0 1 = cc in absurd (omega arith)
-    go (beyond which) q f e = let y : _≡_ {A = ℕ} 0 1 = cc in absurd (omega arith)
+  -- a result of 0
+  answered : (c : Call) (x y : ℕ) → call h ≡ record { call = c; first = x; second = y } → said (l .kind) ≡ Result → eqb (l .third) 0 ≡ true →
+      ruleOfResult c (known h) l .passed ≡ true → UpheldBy (l ∷ h) (live (l ∷ h))
+  answered Open x y k e q r = rw (e, k, q) (g .upheld)
+  answered Malloc x y k e q r = rw (e, q, k) (with-buffers _ (rw k at (keeps-handed (known h .run) _ _ _ _ (last h) (l .first) (l .second) (g .upheld) r)) (g .upheld))
+  answered Free x y k e q r = rw (e, q, k) (with-buffers _ (firm-filter _ _ (λ b. not (eqb (b .start) x)) (live h) (g .upheld .firm)) (g .upheld))
+  answered Close x y k e q r = rw (e, k, q) (g .upheld)
+
+  resulted : said (l .kind) ≡ Result → R0 Result (known h .run) l ≡ true → ruleOf Result h l .passed ≡ true → UpheldAfter (l ∷ h)
+  unfolding R0
+  resulted e r t = record { page = λ _. rw e (g .page (both (begun h) _ r .0)); upheld = go (eqb (l .third) 0) refl t }
+    where
+      go : (b : Bool) → eqb (l .third) 0 ≡ b → cond b (ruleOfResult (call h .call) (known h) l) untested .passed ≡ true → UpheldBy (l ∷ h) (live (l ∷ h))
+      go true q t = answered (call h .call) (call h .first) (call h .second) refl e q t
+      go false q t = rw (e, q) (g .upheld)
+
+  line-upholds : faultOf h l ≡ none → UpheldAfter (l ∷ h)
+  line-upholds f =
+      let w = said (l .kind) in
+      let t = passed (R0 w (known h .run) l) (ruleOf w h l .passed) (sizeOf w h l .passed) (ruleOf w h l .number) (sizeOf w h l .number) f in
+      go w refl (t .0) (t .1)
+    where
+      go : (w : Said) → said (l .kind) ≡ w → R0 w (known h .run) l ≡ true → ruleOf w h l .passed ≡ true → UpheldAfter (l ∷ h)
+      go (Calls c) e r t = called c e r
+      go (Record w) e r t = recorded w e r t
+      go Result e r t = resulted e r t
+      go Unknown e r t = absurd (unknown h l r)
+
+nothing-upheld : UpheldAfter []
+nothing-upheld =
+    record { page = λ e. absurd (false≢true e); upheld = record { owned = tt; placed = tt; sized = tt; reserved = tt; firm = firm-none _ _ } }
+
+-- Where nothing is wrong with any line, that stays so.
+faultless-upholds : (n : ℕ) (t : List Reading) (h : List Line) → UpheldAfter h → ((m : ℕ) → faultIn (newestFirst h (take m t)) (drop m t) ≡ none) →
+    UpheldAfter (newestFirst h (take n t))
+faultless-upholds zero t h g f = g
+faultless-upholds (suc n) [] h g f = g
+faultless-upholds (suc n) (Malformed ∷ t) h g f = absurd (some-not (breaks 0) (f 0))
+faultless-upholds (suc n) (Good l ∷ t) h g f = faultless-upholds n t (l ∷ h) (line-upholds h l g (f 0)) (λ m. f (suc m))
 
 -- In an accepted trace, after every number of lines, the live buffers are sound.
 pub accepted-means : (t : List Reading) → verdict t ≡ Accepted → (n : ℕ) → SoundAfter (newestFirst [] (take n t))
-unfolding verdict
-accepted-means t e n = means-from n t 0 start [] (record { page = refl; asked = refl; mapped = λ x. refl; live = refl; idle = λ _. refl; sound = sound-none 0 _ }) e
+accepted-means t e n = sound-of (faultless-upholds n t [] nothing-upheld (exactly t Accepted e) .upheld)

@@ -17,7 +17,7 @@ use Rattle.judge_rules.specs.declared.Call.{Call}
 use Rattle.judge_rules.specs.declared.Call.the-variants.{Open, Malloc, Free, Close}
 use Rattle.judge_rules.specs.declared.Said.{Said}
 use Rattle.judge_rules.specs.declared.Said.the-variants.{Record, Call as Calls, Result, Unknown}
-use Rattle.judge_rules.proofs.Keeps.{ruled-on, sized-fits, on-on}
+use Rattle.judge_rules.proofs.Steps.{ruled-on, sized-fits, on-on}
 
 module _ (s : Judge) (f : InBounds s) where
   bounds-record : (w : Word) (a b : ℕ) (z : Judge) → recorded w s a b ≡ on z → InBounds z

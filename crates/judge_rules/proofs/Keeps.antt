@@ -1,266 +1,298 @@
--- What each rule keeps. The judge's state knows of the lines what their meaning speaks of, and the live buffers stay sound: R3 maps no page anew, R4
--- unmaps no live one, R7 hands over pages of their own with handles of their own.
+-- What each rule keeps of the live buffers: R1, that reservations are apart; R2 and R5, which creation a handle is from; R3 and R4, what a page shows; R7, that
+-- buffers are apart, in addresses and in handles; R10, the reservation under a page.
 use mathlib.Core.Path.{_≡_, refl, ap, sym, _∙_, subst}
 use mathlib.Core.Bool.{Bool, true, false, cond, _&&_, _||_, not, false≢true}
-use mathlib.Core.Logic.{⊎-elim}
+use mathlib.Core.Logic.{_⊎_, inl, inr, ⊎-elim}
 use mathlib.Core.List.{List, [], _∷_, map}
 use mathlib.Core.Option.{Option, none, some}
-use Prim.Native.Nat.{ℕ, _+_, _≤_, _<_}
+use Prim.Native.Nat.{ℕ, _+_, _%_, _≤_, _<_}
 use native.Mathlib.Omega.{arith}
-use borrow.Author.Tests.{eqb-true, leb-true, eq-eqb, ne-eqb}
+use borrow.Author.Tests.{eqb-true, eqb-false, leb-true, not-true, eq-eqb, ne-eqb}
 use lib.Dec.{leb, eqb}
-use Rattle.lists.specs.Tests.{All, Member, every, any}
-use Rattle.lists.proofs.Tests.{cases-eq, both, either, all-implies}
-use Rattle.words.specs.declared.Word.{Word}
-use Rattle.words.specs.declared.Word.the-variants.{Reserve, Create, Map, Access, Unmap, Release, Record as RecordEvent, Asked as AskedFor, Wait, Sync, Giveback}
+use Rattle.lists.specs.Tests.{All, Pairs, Member, every, any, filter, distinct}
+use Rattle.lists.proofs.Tests.{cases-eq, both, either, all-implies, all-both, all-filter}
+use Rattle.lists.proofs.Every.{every-all}
+use Rattle.lists.proofs.Members.{member-all, all-members, filter-member}
 use Rattle.judge_rules.specs.Ranges.{inside, clear, pages}
-use Rattle.judge_rules.specs.Rules.{Judge, Live, isMapped, aligned, wholePages, noneLive, inReservation, inBuffers, alone, noHandleTwice, R3, R4, R7}
-use Rattle.judge_rules.specs.Verdict.{Step, on, beyond, ruled, sized, placed, unmapped, recorded, ended, start}
-use Rattle.judge_rules.specs.Meaning.{movedBy, Buffer, there, endedBy, live, NoAddress, NoHandle, Kept, Sound}
-use Rattle.judge_rules.specs.declared.Asked.{Asked}
-use Rattle.judge_rules.specs.declared.Call.{Call}
-use Rattle.judge_rules.specs.declared.Call.the-variants.{Open, Malloc, Free, Close}
-use Rattle.judge_rules.proofs.PageLaws.{or-true, inside-is, is-inside, clear-apart, pages-in, pages-apart, found, isSome, mapped-found, some-none, every-found, found-filter, carry, gathered, there-some, every-same, lies-under, handles-distinct}
+use Rattle.judge_rules.specs.Rules.{Reservation, Judge, isIn, isMapped, isUnder, aligned, wholePages, noneLive, credible, inReservation, R1, R2, R3, R4, R5, R10}
+use Rattle.judge_rules.specs.SoFar.{Held, Mapped}
+use Rattle.judge_rules.specs.Meaning.{Shown, createdBy, shownBy, from, Buffer, there, handles, Holds, Reserves, NoAddress, NoReserved, NoHandle, Within, Kept, Sound}
+use Rattle.judge_rules.specs.Exactly.{plainPage, plain}
+use Rattle.judge_rules.specs.declared.Run.{Run}
+use Rattle.judge_rules.proofs.PageLaws.{inside-is, is-inside, clear-apart, pages-in, isSome, some-none, some-not, carry, pairs-filter}
+use Rattle.judge_rules.proofs.Shows.{lookup-filter, lookup-key, created-held, Owned, shown-mapped, created-stays, under-none}
 
--- the judge's view of a buffer
-abbrev pub plain : Buffer → Live
-plain b = record { start = b .start; size = b .size; stream = b .stream }
+-- A buffer whose pages show what they showed.
+pub record Same (p : ℕ) (u : ℕ → Option Shown) (b : Buffer) : Type 0 where
+  pub whole : (b .start % p ≡ 0) × (b .size % p ≡ 0)
+  pub same : map u (pages p (b .start) (b .size)) ≡ map some (b .shown)
 
--- The judge's state `s`, where the page size is `p`, the call `q`, `u x` lies under `x` and `bs` are the live buffers.
-pub record Knows (s : Judge) (p : ℕ) (q : Asked) (u : ℕ → Option ℕ) (bs : List Buffer) : Type 0 where
-  pub page : s .run .page ≡ p
-  pub asked : s .run .asked ≡ q
-  pub mapped : (x : ℕ) → found (s .mapped) x ≡ u x
-  pub live : s .live ≡ map plain bs
-  pub idle : s .run .opened ≡ false → bs ≡ []
-  pub sound : Sound p u bs
+-- What is said of the live buffers without the reservations.
+pub record Firm (p : ℕ) (u : ℕ → Option Shown) (bs : List Buffer) : Type 0 where
+  pub apart : Pairs NoAddress bs
+  pub kept : All (Same p u) bs
+  pub own : Pairs NoHandle bs
+  pub once : All (λ b. distinct (handles b) ≡ true) bs
 
--- from the steps of a line to the tests that it passed
-pub ruled-on : (n : ℕ) (t : Bool) (k : Step) (s : Judge) → ruled n t k ≡ on s → (t ≡ true) × (k ≡ on s)
-unfolding ruled
-ruled-on n true k s e = (refl, e)
-ruled-on n false k s e = let z : _≡_ {A = ℕ} 0 1 = cc in absurd (omega arith)
+-- What is so as long as nothing is wrong: every mapped page is to a held handle and lies in a reservation, which are apart; and the live buffers are firm.
+pub record Upheld (p : ℕ) (rs : List Reservation) (cs : List Held) (ms : List Mapped) (bs : List Buffer) : Type 0 where
+  pub owned : Owned cs ms
+  pub placed : All (λ m. Within p rs (m .at)) ms
+  pub sized : All (λ r. 0 < r .size) rs
+  pub reserved : Pairs NoReserved rs
+  pub firm : Firm p (shownBy cs ms) bs
 
-pub sized-fits : (w m c : ℕ) (a s : Judge) → sized w m c a ≡ on s → (c ≤ m) × (a ≡ s)
-unfolding sized
-sized-fits w m c a s e = go (leb c m) refl e
-  where
-    go : (t : Bool) → leb c m ≡ t → cond t (on a) (beyond w) ≡ on s → (c ≤ m) × (a ≡ s)
-    go true q e = (leb-true c m q, cc)
-    go false q e = let z : _≡_ {A = ℕ} 0 1 = cc in absurd (omega arith)
+-- So a page of a live buffer, which shows something, is mapped, and lies in a reservation.
+all-shown : (u : ℕ → Option Shown) (P : ℕ → Type 0) → ((x : ℕ) (s : Shown) → u x ≡ some s → P x) → (xs : List ℕ) (hs : List Shown) → map u xs ≡ map some hs → All P xs
+all-shown u P f [] hs e = tt
+all-shown u P f (x ∷ xs) [] e = let z : _≡_ {A = ℕ} 0 1 = cc in absurd (omega arith)
+all-shown u P f (x ∷ xs) (k ∷ hs) e = (f x k cc, all-shown u P f xs hs cc)
 
-pub sized-on : (w m c : ℕ) (a s : Judge) → sized w m c a ≡ on s → a ≡ s
-sized-on w m c a s e = sized-fits w m c a s e .1
-
-pub on-on : (a s : Judge) → on a ≡ on s → a ≡ s
-on-on a s e = cc
-
--- the state under another name
-pub become : {a z : Judge} {p : ℕ} {q : Asked} {u : ℕ → Option ℕ} {bs : List Buffer} → a ≡ z → Knows a p q u bs → Knows z p q u bs
-become {p = p} {q = q} {u = u} {bs = bs} e g = subst (λ z. Knows z p q u bs) e g
-
--- a line that changes neither run, mapped pages nor live buffers
-module _ {s z : Judge} {p : ℕ} {q : Asked} {u : ℕ → Option ℕ} {bs : List Buffer} where
-  pub aside : Knows s p q u bs → s .run ≡ z .run → s .mapped ≡ z .mapped → s .live ≡ z .live → Knows z p q u bs
-  aside g a b c =
-      record {
-        page = rw a at (g .page);
-        asked = rw a at (g .asked);
-        mapped = λ x. rw b at (g .mapped x);
-        live = rw c at (g .live);
-        idle = rw a at (g .idle);
-        sound = g .sound;
-      }
-
-  pub aside-to : (t : Judge) → Knows s p q u bs → t ≡ z → s .run ≡ t .run → s .mapped ≡ t .mapped → s .live ≡ t .live → Knows z p q u bs
-  aside-to t g e a b c = aside g (a ∙ ap (λ s. s .run) e) (b ∙ ap (λ s. s .mapped) e) (c ∙ ap (λ s. s .live) e)
-
-pub sound-none : (p : ℕ) (u : ℕ → Option ℕ) → Sound p u []
-sound-none p u = record { apart = tt; kept = tt; own = tt; once = tt }
-
--- A map and an unmap: what lies under a page changes, and the buffers keep theirs.
-kept-by : (p : ℕ) (u v : ℕ → Option ℕ) (b : Buffer) → ((x : ℕ) → b .start ≤ x → x < b .start + b .size → (k : ℕ) → u x ≡ some k → v x ≡ some k) → Kept p u b → Kept p v b
-kept-by p u v b f k =
+pub sound-of : {p : ℕ} {rs : List Reservation} {cs : List Held} {ms : List Mapped} {bs : List Buffer} → Upheld p rs cs ms bs → Sound p (shownBy cs ms) rs bs
+sound-of {p = p} {rs = rs} {cs = cs} {ms = ms} {bs = bs} g =
     record {
-      whole = k .whole;
-      same = carry u v (pages p (b .start) (b .size)) (b .handles) (all-implies _ _ (λ x r. f x (r .0) (r .1)) (pages p (b .start) (b .size)) (pages-in p (b .start) (b .size))) (k .same);
+      apart = g .firm .apart;
+      kept = all-implies _ _ (λ b k. record { whole = k .whole; same = k .same; within = within b k }) bs (g .firm .kept);
+      own = g .firm .own;
+      once = g .firm .once;
+      reserved = g .reserved;
+    }
+  where
+    within : (b : Buffer) → Same p (shownBy cs ms) b → All (Within p rs) (pages p (b .start) (b .size))
+    within b k =
+        all-shown (shownBy cs ms) (Within p rs) (λ x s e. lookup-key (λ m. m .at) (λ m. from m (createdBy cs (m .handle))) (Within p rs) ms x s (g .placed) e)
+        (pages p (b .start) (b .size)) (b .shown) (k .same)
+
+-- Buffers stay firm where no page of them loses what it shows.
+abbrev Stays : (ℕ → Option Shown) → (ℕ → Option Shown) → ℕ → Type 0
+Stays u v x = (s : Shown) → u x ≡ some s → v x ≡ some s
+
+firm-stays : (p : ℕ) (u v : ℕ → Option Shown) (bs : List Buffer) → All (λ b. (x : ℕ) → Holds b x → Stays u v x) bs → Firm p u bs → Firm p v bs
+firm-stays p u v bs f g =
+    record { apart = g .apart; kept = all-implies _ _ (λ b r. stays b (r .0) (r .1)) bs (all-both _ _ bs f (g .kept)); own = g .own; once = g .once }
+  where
+    stays : (b : Buffer) → ((x : ℕ) → Holds b x → Stays u v x) → Same p u b → Same p v b
+    stays b f k =
+        record {
+          whole = k .whole;
+          same = carry u v (pages p (b .start) (b .size)) (b .shown) (all-implies _ _ (λ x r. f x r) (pages p (b .start) (b .size)) (pages-in p (b .start) (b .size))) (k .same);
+        }
+
+firm-everywhere : (p : ℕ) (u v : ℕ → Option Shown) (bs : List Buffer) → ((x : ℕ) → Stays u v x) → Firm p u bs → Firm p v bs
+firm-everywhere p u v bs f g = firm-stays p u v bs (all-members _ bs (λ b _ x _. f x)) g
+
+pub firm-none : (p : ℕ) (u : ℕ → Option Shown) → Firm p u []
+firm-none p u = record { apart = tt; kept = tt; own = tt; once = tt }
+
+pub firm-filter : (p : ℕ) (u : ℕ → Option Shown) (t : Buffer → Bool) (bs : List Buffer) → Firm p u bs → Firm p u (filter t bs)
+firm-filter p u t bs g =
+    record {
+      apart = pairs-filter _ t bs (g .apart);
+      kept = all-filter _ t bs (g .kept);
+      own = pairs-filter _ t bs (g .own);
+      once = all-filter _ t bs (g .once);
     }
 
-map-kept : (p a h : ℕ) (u : ℕ → Option ℕ) (bs : List Buffer) → u a ≡ none → All (Kept p u) bs → All (Kept p (λ x. cond (eqb a x) (some h) (u x))) bs
-map-kept p a h u bs e k = all-implies _ _ (λ b g. kept-by p u (λ x. cond (eqb a x) (some h) (u x)) b (λ x _ _ j q. other x j q) g) bs k
-  where
-    other : (x j : ℕ) → u x ≡ some j → cond (eqb a x) (some h) (u x) ≡ some j
-    other x j q =
-        ⊎-elim
-        (λ c. let d : u x ≡ none = ap u (sym c) ∙ e in let z : _≡_ {A = ℕ} 0 1 = cc in absurd (omega arith))
-        (λ c. rw (ne-eqb a x c) q)
-        (cases-eq a x)
+-- the other buffers
+pub with-buffers : {p : ℕ} {rs : List Reservation} {cs : List Held} {ms : List Mapped} {bs : List Buffer} (cs′ : List Buffer) →
+    Firm p (shownBy cs ms) cs′ → Upheld p rs cs ms bs → Upheld p rs cs ms cs′
+with-buffers cs′ f g = record { owned = g .owned; placed = g .placed; sized = g .sized; reserved = g .reserved; firm = f }
 
-unmap-kept : (p a n : ℕ) (u : ℕ → Option ℕ) (bs : List Buffer) → every (λ b. clear a n (b .start) (b .size)) (map plain bs) ≡ true →
-    All (Kept p u) bs → All (Kept p (λ x. cond (inside a n x) none (u x))) bs
-unmap-kept p a n u [] e k = tt
-unmap-kept p a n u (b ∷ bs) e k =
-    let c = both (clear a n (b .start) (b .size)) (every (λ b. clear a n (b .start) (b .size)) (map plain bs)) e in
-    (kept-by p u (λ x. cond (inside a n x) none (u x)) b (λ x l m j q. away x l m j q (c .0) (inside a n x) refl) (k .0), unmap-kept p a n u bs (c .1) (k .1))
-  where
-    away : (x : ℕ) → b .start ≤ x → x < b .start + b .size → (j : ℕ) → u x ≡ some j → clear a n (b .start) (b .size) ≡ true →
-        (t : Bool) → inside a n x ≡ t → cond t none (u x) ≡ some j
-    away x l m j q c true r = let i = inside-is a n x r in absurd (clear-apart a n (b .start) (b .size) x c (i .0) (i .1) l m)
-    away x l m j q c false r = q
+module _ (run : Run) (rs : List Reservation) (cs : List Held) (ms : List Mapped) (bs : List Buffer) (last : Option ℕ) (a n : ℕ) where
+  -- the tables as the rules see them
+  abbrev pub seen : Judge
+  seen = record { run = run; reservations = rs; held = map (λ k. k .handle) cs; mapped = map plainPage ms; live = map plain bs; last = last }
 
-knows-map : (s : Judge) (p : ℕ) (q : Asked) (u : ℕ → Option ℕ) (bs : List Buffer) (a b : ℕ) → Knows s p q u bs → R3 s a b ≡ true →
-    Knows (placed s a b) p q (λ x. cond (eqb a x) (some b) (u x)) bs
-unfolding R3
-knows-map s p q u bs a b g r =
-    let f = both (inReservation (s .run .page) (s .reservations) a && not (isMapped (s .mapped) a)) _ r in
-    let h = both (inReservation (s .run .page) (s .reservations) a) (not (isMapped (s .mapped) a)) (f .0) in
-    let n : u a ≡ none = sym (g .mapped a) ∙ some-none (found (s .mapped) a) (ap not (sym (mapped-found (s .mapped) a)) ∙ h .1) in
-    record {
-      page = g .page;
-      asked = g .asked;
-      mapped = λ x. ap (λ o. cond (eqb a x) (some b) o) (g .mapped x);
-      live = g .live;
-      idle = g .idle;
-      sound = record { apart = g .sound .apart; kept = map-kept p a b u bs n (g .sound .kept); own = g .sound .own; once = g .sound .once };
-    }
+  module _ (g : Upheld (run .page) rs cs ms bs) where
+    abbrev new : Reservation
+    new = record { base = a; size = n }
 
-clear-of : (s : Judge) (bs : List Buffer) (a n : ℕ) → s .live ≡ map plain bs → noneLive (s .live) a n ≡ true → every (λ l. clear a n (l .start) (l .size)) (map plain bs) ≡ true
-unfolding noneLive
-clear-of s bs a n e h = rw e at h
+    pub keeps-reserve : R1 seen a n ≡ true → Upheld (run .page) (new ∷ rs) cs ms bs
+    unfolding R1 credible
+    keeps-reserve r =
+        let c = both (credible (run .page) rs a n && eqb n (run .va) && not (eqb n 0)) (aligned (run .page) n) r in
+        let d = both (credible (run .page) rs a n && eqb n (run .va)) (not (eqb n 0)) (c .0) in
+        let e = both (credible (run .page) rs a n) (eqb n (run .va)) (d .0) in
+        let f = both (not (eqb a 0) && aligned (run .page) a && leb (a + n) _) (every (λ r. clear a n (r .base) (r .size)) rs) (e .0) in
+        let some-size = eqb-false n 0 (not-true (eqb n 0) (d .1)) in
+        record {
+          owned = g .owned;
+          placed = all-implies _ _ (λ m w. record { reservation = w .reservation; one = inr (w .one); whole = w .whole }) ms (g .placed);
+          sized = (omega arith, g .sized);
+          reserved = (
+            every-all (λ r. clear a n (r .base) (r .size)) (NoReserved new)
+                (λ r e x i j. clear-apart a n (r .base) (r .size) x e (i .0) (i .1) (j .0) (j .1)) rs (f .1),
+            g .reserved,
+          );
+          firm = g .firm;
+        }
 
-knows-unmap : (s : Judge) (p : ℕ) (q : Asked) (u : ℕ → Option ℕ) (bs : List Buffer) (a b : ℕ) → Knows s p q u bs → R4 s a b ≡ true →
-    Knows (unmapped s a b) p q (λ x. cond (inside a b x) none (u x)) bs
-unfolding R4
-knows-unmap s p q u bs a b g r =
-    let f = both (wholePages (s .run .page) (s .mapped) a b) (noneLive (s .live) a b) r in
-    record {
-      page = g .page;
-      asked = g .asked;
-      mapped = λ x. found-filter a b (s .mapped) x ∙ ap (λ o. cond (inside a b x) none o) (g .mapped x);
-      live = g .live;
-      idle = g .idle;
-      sound =
+    -- a handle that nobody holds is created: the others are from where they were
+    module _ (line : ℕ) where
+      abbrev more : List Held
+      more = record { handle = a; created = line } ∷ cs
+
+      new-stays : createdBy cs a ≡ none → (j c : ℕ) → createdBy cs j ≡ some c → createdBy more j ≡ some c
+      new-stays f j c e =
+          ⊎-elim
+          (λ q. absurd (some-not c (sym e ∙ (ap (createdBy cs) (sym q) ∙ f))))
+          (λ q. rw (ne-eqb a j q) e)
+          (cases-eq a j)
+
+      still-some : (b : Bool) (o : Option ℕ) → isSome o ≡ true → isSome (cond b (some line) o) ≡ true
+      still-some true o e = refl
+      still-some false o e = e
+
+      pub keeps-create : R2 seen a ≡ true → Upheld (run .page) rs more ms bs
+      unfolding R2
+      keeps-create r =
+          let f = some-none (createdBy cs a) (created-held cs a ∙ not-true (isIn a (map (λ k. k .handle) cs)) r) in
           record {
-            apart = g .sound .apart;
-            kept = unmap-kept p a b u bs (clear-of s bs a b (g .live) (f .1)) (g .sound .kept);
-            own = g .sound .own;
-            once = g .sound .once;
-          };
-    }
+            owned = all-implies _ _ (λ m e. still-some (eqb a (m .handle)) (createdBy cs (m .handle)) e) ms (g .owned);
+            placed = g .placed;
+            sized = g .sized;
+            reserved = g .reserved;
+            firm =
+                firm-everywhere (run .page) (shownBy cs ms) (shownBy more ms) bs
+                (λ x. created-stays cs more ms (all-members _ ms (λ m _. new-stays f (m .handle))) x) (g .firm);
+          }
 
--- A record of code 0.
-pub knows-record : (w : Word) (s : Judge) (p : ℕ) (q : Asked) (u : ℕ → Option ℕ) (bs : List Buffer) (a b : ℕ) (z : Judge) → Knows s p q u bs →
-    recorded w s a b ≡ on z → Knows z p q (λ x. movedBy w a b x (u x)) bs
-unfolding recorded
-knows-record Reserve s p q u bs a b z g e = aside-to _ g (sized-on _ _ _ _ z (ruled-on _ _ _ z e .1)) refl refl refl
-knows-record Create s p q u bs a b z g e = aside-to _ g (sized-on _ _ _ _ z (ruled-on _ _ _ z e .1)) refl refl refl
-knows-record Map s p q u bs a b z g e =
-    let j = ruled-on _ _ _ z e in
-    become (sized-on _ _ _ _ z (j .1)) (knows-map s p q u bs a b g (j .0))
-knows-record Access s p q u bs a b z g e = become (on-on s z (ruled-on _ _ _ z e .1)) g
-knows-record Unmap s p q u bs a b z g e =
-    let j = ruled-on _ _ _ z e in
-    become (on-on _ z (j .1)) (knows-unmap s p q u bs a b g (j .0))
-knows-record Release s p q u bs a b z g e = aside-to _ g (on-on _ z (ruled-on _ _ _ z e .1)) refl refl refl
-knows-record RecordEvent s p q u bs a b z g e = aside-to _ g (on-on _ z (ruled-on _ _ _ z e .1)) refl refl refl
-knows-record AskedFor s p q u bs a b z g e = become (on-on s z (ruled-on _ _ _ z e .1)) g
-knows-record Wait s p q u bs a b z g e = become (on-on s z (ruled-on _ _ _ z e .1)) g
-knows-record Sync s p q u bs a b z g e = become (on-on s z e) g
-knows-record Giveback s p q u bs a b z g e = aside-to _ g (on-on _ z (ruled-on _ _ _ z e .1)) refl refl refl
+    -- a page is mapped where nothing was
+    in-one : (q : List Reservation) → any (λ r. leb (r .base) a && leb (a + run .page) (r .base + r .size)) q ≡ true → Within (run .page) q a
+    in-one [] e = absurd (false≢true e)
+    in-one (r ∷ q) e = ⊎-elim here (λ f. there-too (in-one q f)) (either (leb (r .base) a && leb (a + run .page) (r .base + r .size)) _ e)
+      where
+        here : (leb (r .base) a && leb (a + run .page) (r .base + r .size)) ≡ true → Within (run .page) (r ∷ q) a
+        here f =
+            let b = both (leb (r .base) a) _ f in
+            record { reservation = r; one = inl refl; whole = (leb-true (r .base) a (b .0), leb-true (a + run .page) (r .base + r .size) (b .1)) }
 
-pub knows-ended : (c : Call) (s : Judge) (p : ℕ) (q : Asked) (u : ℕ → Option ℕ) (bs : List Buffer) → Knows s p q u bs → Knows (ended c s) p q u (endedBy c bs)
-knows-ended Open s p q u bs g = g
-knows-ended Malloc s p q u bs g = g
-knows-ended Free s p q u bs g = g
-knows-ended Close s p q u bs g = record { page = g .page; asked = g .asked; mapped = g .mapped; live = refl; idle = λ _. refl; sound = sound-none p u }
+        there-too : Within (run .page) q a → Within (run .page) (r ∷ q) a
+        there-too w = record { reservation = w .reservation; one = inr (w .one); whole = w .whole }
 
--- A buffer that is handed over: its addresses are in no other,
-all-clear : (a n : ℕ) (new : Buffer) (bs : List Buffer) → new .start ≡ a → new .size ≡ n → every (λ b. clear a n (b .start) (b .size)) (map plain bs) ≡ true →
-    All (NoAddress new) bs
-all-clear a n new [] d f e = tt
-all-clear a n new (b ∷ bs) d f e =
-    let c = both (clear a n (b .start) (b .size)) (every (λ b. clear a n (b .start) (b .size)) (map plain bs)) e in
-    (λ x h k. clear-apart a n (b .start) (b .size) x (c .0) (omega (arith, h .0)) (omega (arith, h .1)) (k .0) (k .1), all-clear a n new bs d f (c .1))
+    module _ (line : ℕ) where
+      abbrev placed-too : List Mapped
+      placed-too = record { at = a; handle = n; mapped = line } ∷ ms
 
--- and so are its handles: `clash` tells that a page of it and a page of a buffer have no handle in common.
-all-own : (p : ℕ) (u : ℕ → Option ℕ) (new : Buffer) (ps : List ℕ) (P : ℕ → Type 0) → All P ps → new .handles ≡ there (map u ps) → (bs : List Buffer) →
-    ((x y k : ℕ) → P x → u x ≡ some k → any (λ b. inside (b .start) (b .size) y) (map plain bs) ≡ true → u y ≡ some k → ⊥) →
-    All (Kept p u) bs → All (NoHandle new) bs
-all-own p u new ps P a e [] clash k = tt
-all-own p u new ps P a e (b ∷ bs) clash k =
-    (λ j m n. none-common j (rw e at m) (rw hb at n), all-own p u new ps P a e bs (λ x y j i q t r. clash x y j i q (or-true (inside (b .start) (b .size) y) _ t) r) (k .1))
-  where
-    qs : List ℕ
-    qs = pages p (b .start) (b .size)
+      pub keeps-map : R3 seen a n ≡ true → Upheld (run .page) rs cs placed-too bs
+      unfolding R3 inReservation
+      keeps-map r =
+          let c = both (inReservation (run .page) rs a && not (isMapped (map plainPage ms) a)) (isIn n (map (λ k. k .handle) cs)) r in
+          let d = both (inReservation (run .page) rs a) (not (isMapped (map plainPage ms) a)) (c .0) in
+          let e = both (aligned (run .page) a) _ (d .0) in
+          let bare = some-none (shownBy cs ms a) (shown-mapped cs ms (g .owned) a ∙ not-true (isMapped (map plainPage ms) a) (d .1)) in
+          record {
+            owned = (created-held cs n ∙ c .1, g .owned);
+            placed = (in-one rs (e .1), g .placed);
+            sized = g .sized;
+            reserved = g .reserved;
+            firm = firm-everywhere (run .page) (shownBy cs ms) (shownBy cs placed-too) bs (other bare) (g .firm);
+          }
+        where
+          other : shownBy cs ms a ≡ none → (x : ℕ) → Stays (shownBy cs ms) (shownBy cs placed-too) x
+          other f x s e =
+              ⊎-elim
+              (λ q. absurd (some-not s (sym e ∙ (ap (shownBy cs ms) (sym q) ∙ f))))
+              (λ q. rw (ne-eqb a x q) e)
+              (cases-eq a x)
 
-    hb : b .handles ≡ there (map u qs)
-    hb = sym (there-some (b .handles)) ∙ ap there (sym (k .0 .same))
+    -- pages of no live buffer are unmapped
+    abbrev left : List Mapped
+    left = filter (λ m. not (inside a n (m .at))) ms
 
-    none-common : (j : ℕ) → Member j (there (map u ps)) → Member j (there (map u qs)) → ⊥
-    none-common j m n =
-        lies-under u P j ps a m
-        (λ x i q.
-        lies-under u (λ y. (b .start ≤ y) × (y < b .start + b .size)) j qs (pages-in p (b .start) (b .size)) n
-        (λ y r t. clash x y j i q (rw (is-inside (b .start) (b .size) y (r .0) (r .1))) t))
+    away : (qs : List Buffer) → every (λ b. clear a n (b .start) (b .size)) (map plain qs) ≡ true → All (λ b. (x : ℕ) → Holds b x → Stays (shownBy cs ms) (shownBy cs left) x) qs
+    away [] e = tt
+    away (b ∷ qs) e =
+        let c = both (clear a n (b .start) (b .size)) _ e in
+        (λ x i s f. lookup-filter (λ m. m .at) (λ m. from m (createdBy cs (m .handle))) (λ x. not (inside a n x)) ms x ∙ out x i s f (c .0) (inside a n x) refl, away qs (c .1))
+      where
+        out : (x : ℕ) → Holds b x → (s : Shown) → shownBy cs ms x ≡ some s → clear a n (b .start) (b .size) ≡ true → (t : Bool) → inside a n x ≡ t →
+            cond (not t) (shownBy cs ms x) none ≡ some s
+        out x i s f c true q = let j = inside-is a n x q in absurd (clear-apart a n (b .start) (b .size) x c (j .0) (j .1) (i .0) (i .1))
+        out x i s f c false q = f
 
--- what R7's test of handles tells: pages in the buffers with one handle, of which one is in the new buffer, are one page
-one-page : (s : Judge) (a n x y k : ℕ) → noHandleTwice (s .mapped) (s .live) a n ≡ true → a ≤ x → x < a + n → found (s .mapped) x ≡ some k → inBuffers (s .live) a n y ≡ true →
-    found (s .mapped) y ≡ some k → x ≡ y
-unfolding noHandleTwice
-one-page s a n x y k e p q f i g =
-    let first = every-found (λ p. not (inside a n (p .at)) || alone (s .mapped) (s .live) a n p) (s .mapped) x k e f in
-    let lone : alone (s .mapped) (s .live) a n (record { at = x; handle = k }) ≡ true = rw (is-inside a n x p q) at first in
-    let second = every-found (λ q. eqb (q .at) x || not (eqb (q .handle) k) || not (inBuffers (s .live) a n (q .at))) (s .mapped) y k lone g in
-    let third : (eqb y x || not (eqb k k) || not (inBuffers (s .live) a n y)) ≡ true = second in
-    ⊎-elim
-    (λ h. ⊎-elim (λ t. sym (eqb-true y x t)) (λ t. absurd (false≢true (ap not (sym (eq-eqb k k refl)) ∙ t))) (either (eqb y x) (not (eqb k k)) h))
-    (λ h. absurd (false≢true (ap not (sym i) ∙ h)))
-    (either (eqb y x || not (eqb k k)) (not (inBuffers (s .live) a n y)) third)
+    pub keeps-unmap : R4 seen a n ≡ true → Upheld (run .page) rs cs left bs
+    unfolding R4 noneLive
+    keeps-unmap r =
+        let f = both (wholePages (run .page) (map plainPage ms) a n) _ r in
+        record {
+          owned = all-filter _ (λ m. not (inside a n (m .at))) ms (g .owned);
+          placed = all-filter _ (λ m. not (inside a n (m .at))) ms (g .placed);
+          sized = g .sized;
+          reserved = g .reserved;
+          firm = firm-stays (run .page) (shownBy cs ms) (shownBy cs left) bs (away bs (f .1)) (g .firm);
+        }
 
--- an address of the new buffer is in no live one
-not-live : (a n x : ℕ) (bs : List Buffer) → every (λ b. clear a n (b .start) (b .size)) (map plain bs) ≡ true → a ≤ x → x < a + n →
-    any (λ b. inside (b .start) (b .size) x) (map plain bs) ≡ true → ⊥
-not-live a n x [] e p q t = false≢true t
-not-live a n x (b ∷ bs) e p q t =
-    let c = both (clear a n (b .start) (b .size)) (every (λ b. clear a n (b .start) (b .size)) (map plain bs)) e in
-    ⊎-elim
-    (λ i. let h = inside-is (b .start) (b .size) x i in clear-apart a n (b .start) (b .size) x (c .0) p q (h .0) (h .1))
-    (λ r. not-live a n x bs (c .1) p q r)
-    (either (inside (b .start) (b .size) x) _ t)
+    -- a handle under no page is released
+    abbrev fewer : List Held
+    fewer = filter (λ c. not (eqb (c .handle) a)) cs
 
-module _ (s : Judge) (u : ℕ → Option ℕ) (bs : List Buffer) (a n : ℕ) where
-  abbrev ps : List ℕ
-  ps = pages (s .run .page) a n
+    spared : (j : ℕ) → eqb j a ≡ false → createdBy fewer j ≡ createdBy cs j
+    spared j q = lookup-filter (λ c. c .handle) (λ c. some (c .created)) (λ j. not (eqb j a)) cs j ∙ rw q refl
 
-  abbrev new : Buffer
-  new = record { start = a; size = n; stream = s .run .asked .second; handles = there (map u ps) }
+    pub keeps-release : R5 seen a ≡ true → Upheld (run .page) rs fewer ms bs
+    unfolding R5
+    keeps-release r =
+        let b = both (isIn a (map (λ k. k .handle) cs)) (not (isUnder (map plainPage ms) a)) r in
+        let free = under-none a ms (not-true (isUnder (map plainPage ms) a) (b .1)) in
+        record {
+          owned = all-implies _ _ (λ m e. ap isSome (spared (m .handle) (e .0)) ∙ e .1) ms (all-both _ _ ms free (g .owned));
+          placed = g .placed;
+          sized = g .sized;
+          reserved = g .reserved;
+          firm =
+              firm-everywhere (run .page) (shownBy cs ms) (shownBy fewer ms) bs
+              (λ x. created-stays cs fewer ms (all-implies _ _ (λ m e c f. spared (m .handle) e ∙ f) ms free) x) (g .firm);
+        }
 
-  pub sound-more : Knows s (s .run .page) (s .run .asked) u bs → R7 s a n ≡ true → Sound (s .run .page) u (new ∷ bs)
-  unfolding R7 wholePages
-  sound-more g r =
-      let d = both (eqb n (s .run .asked .first) && wholePages (s .run .page) (s .mapped) a n && noneLive (s .live) a n) (noHandleTwice (s .mapped) (s .live) a n) r in
-      let c = both (eqb n (s .run .asked .first) && wholePages (s .run .page) (s .mapped) a n) (noneLive (s .live) a n) (d .0) in
-      let w = both (eqb n (s .run .asked .first)) (wholePages (s .run .page) (s .mapped) a n) (c .0) in
-      let v = both (not (eqb n 0) && aligned (s .run .page) n && aligned (s .run .page) a) _ (w .1) in
-      let al = both (not (eqb n 0) && aligned (s .run .page) n) (aligned (s .run .page) a) (v .0) in
-      let sz = both (not (eqb n 0)) (aligned (s .run .page) n) (al .0) in
-      let free = clear-of s bs a n (g .live) (c .1) in
-      let there-all = sym (every-same (isMapped (s .mapped)) (λ x. isSome (u x)) (λ x. mapped-found (s .mapped) x ∙ ap isSome (g .mapped x)) ps) ∙ v .1 in
-      record {
-        apart = (all-clear a n new bs refl refl free, g .sound .apart);
-        kept = (record { whole = (eqb-true _ _ (al .1), eqb-true _ _ (sz .1)); same = gathered u ps there-all }, g .sound .kept);
-        own = (all-own (s .run .page) u new ps (λ x. (a ≤ x) × (x < a + n)) (pages-in (s .run .page) a n) refl bs (clash (d .1) free g) (g .sound .kept), g .sound .own);
-        once = (handles-distinct u (λ x. (a ≤ x) × (x < a + n)) (one (d .1) g) ps (pages-apart (s .run .page) a n) (pages-in (s .run .page) a n), g .sound .once);
-      }
-    where
-      one : noHandleTwice (s .mapped) (s .live) a n ≡ true → Knows s (s .run .page) (s .run .asked) u bs → (x y k : ℕ) → (a ≤ x) × (x < a + n) → (a ≤ y) × (y < a + n) →
-          u x ≡ some k → u y ≡ some k → x ≡ y
-      one e g x y k p q f h =
-          one-page s a n x y k e (p .0) (p .1) (g .mapped x ∙ f) (rw (is-inside a n y (q .0) (q .1))) (g .mapped y ∙ h)
+    -- A reservation in which nothing is mapped is given back. Another with the same base would share it, and they are apart: so no other goes with it.
+    abbrev standing : List Reservation
+    standing = filter (λ r. not (eqb (r .base) a)) rs
 
-      clash : noHandleTwice (s .mapped) (s .live) a n ≡ true → every (λ b. clear a n (b .start) (b .size)) (map plain bs) ≡ true → Knows s (s .run .page) (s .run .asked) u bs →
-          (x y k : ℕ) → (a ≤ x) × (x < a + n) → u x ≡ some k → any (λ b. inside (b .start) (b .size) y) (map plain bs) ≡ true → u y ≡ some k → ⊥
-      clash e free g x y k p f t h =
-          let i : inBuffers (s .live) a n y ≡ true = or-true (inside a n y) _ (rw (g .live) t) in
-          let q : x ≡ y = one-page s a n x y k e (p .0) (p .1) (g .mapped x ∙ f) i (g .mapped y ∙ h) in
-          not-live a n x bs free (p .0) (p .1) (rw q t)
+    named : (q : List Reservation) → any (λ r. eqb (r .base) a && eqb (r .size) n) q ≡ true → (r : Reservation) × (Member r q × ((r .base ≡ a) × (r .size ≡ n)))
+    named [] e = absurd (false≢true e)
+    named (r ∷ q) e = ⊎-elim here (λ f. there-too (named q f)) (either (eqb (r .base) a && eqb (r .size) n) _ e)
+      where
+        here : (eqb (r .base) a && eqb (r .size) n) ≡ true → (x : Reservation) × (Member x (r ∷ q) × ((x .base ≡ a) × (x .size ≡ n)))
+        here f = let b = both (eqb (r .base) a) _ f in (r, (inl refl, (eqb-true (r .base) a (b .0), eqb-true (r .size) n (b .1))))
+
+        there-too : (x : Reservation) × (Member x q × ((x .base ≡ a) × (x .size ≡ n))) → (x : Reservation) × (Member x (r ∷ q) × ((x .base ≡ a) × (x .size ≡ n)))
+        there-too w = (w .0, (inr (w .1 .0), w .1 .1))
+
+    one-base : (q : List Reservation) (r s : Reservation) → Pairs NoReserved q → All (λ r. 0 < r .size) q → Member r q → Member s q → r .base ≡ s .base → r ≡ s
+    one-base (x ∷ q) r s p z (inl e) (inl f) b = e ∙ sym f
+    one-base (x ∷ q) r s p z (inl e) (inr m) b =
+        let k = member-all (λ s. NoReserved x s) s q m (p .0) in
+        let w = member-all (λ r. 0 < r .size) s q m (z .1) in
+        absurd (k (s .base) (omega (arith, ap (λ r. r .base) e), omega (arith, ap (λ r. r .base) e, z .0)) (omega arith, omega arith))
+    one-base (x ∷ q) r s p z (inr m) (inl f) b =
+        let k = member-all (λ s. NoReserved x s) r q m (p .0) in
+        let w = member-all (λ r. 0 < r .size) r q m (z .1) in
+        absurd (k (r .base) (omega (arith, ap (λ r. r .base) f), omega (arith, ap (λ r. r .base) f, z .0)) (omega arith, omega arith))
+    one-base (x ∷ q) r s p z (inr m) (inr k) b = one-base q r s (p .1) (z .1) m k b
+
+    pub keeps-giveback : 0 < run .page → R10 seen a n ≡ true → Upheld (run .page) standing cs ms bs
+    unfolding R10
+    keeps-giveback pos r =
+        let b = both (any (λ r. eqb (r .base) a && eqb (r .size) n) rs) (every (λ p. not (inside a n (p .at))) (map plainPage ms)) r in
+        record {
+          owned = g .owned;
+          placed = all-implies _ _ (λ m w. stands m (w .0) (w .1) (named rs (b .0))) ms (all-both _ _ ms (outside ms (b .1)) (g .placed));
+          sized = all-filter _ (λ r. not (eqb (r .base) a)) rs (g .sized);
+          reserved = pairs-filter _ (λ r. not (eqb (r .base) a)) rs (g .reserved);
+          firm = g .firm;
+        }
+      where
+        outside : (q : List Mapped) → every (λ p. not (inside a n (p .at))) (map plainPage q) ≡ true → All (λ m. inside a n (m .at) ≡ false) q
+        outside [] e = tt
+        outside (m ∷ q) e = let c = both (not (inside a n (m .at))) _ e in (not-true (inside a n (m .at)) (c .0), outside q (c .1))
+
+        stands : (m : Mapped) → inside a n (m .at) ≡ false → Within (run .page) rs (m .at) →
+            (r : Reservation) × (Member r rs × ((r .base ≡ a) × (r .size ≡ n))) → Within (run .page) standing (m .at)
+        stands m o w t =
+            record { reservation = w .reservation; one = filter-member (λ r. not (eqb (r .base) a)) (w .reservation) rs (w .one) (rw (ne-eqb (w .reservation .base) a other)); whole = w .whole }
+          where
+            other : w .reservation .base ≡ a → ⊥
+            other e =
+                let k = one-base rs (w .reservation) (t .0) (g .reserved) (g .sized) (w .one) (t .1 .0) (e ∙ sym (t .1 .1 .0)) in
+                false≢true (sym o ∙ is-inside a n (m .at) (omega (arith, w .whole .0)) (omega (arith, w .whole .1, ap (λ r. r .size) k, t .1 .1 .1)))

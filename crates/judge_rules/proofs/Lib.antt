@@ -1,5 +1,10 @@
-pub mod Sessions
 pub mod PageLaws
+pub mod Shows
+pub mod Known
+pub mod Exactly
 pub mod Keeps
+pub mod HandsOver
 pub mod Accepted
+pub mod Steps
 pub mod InBounds
+pub mod Sessions

@@ -71,94 +71,45 @@ unfolding pages
 pages-apart zero a n = rw (div-zero n) tt
 pages-apart (suc p) a n = pages-rise (suc p) a (n / suc p) (omega arith)
 
--- The handle of the page that is mapped at `x`.
-abbrev pub found : List Page → ℕ → Option ℕ
-found [] x = none
-found (p ∷ m) x = cond (eqb (p .at) x) (some (p .handle)) (found m x)
-
-abbrev pub isSome : Option ℕ → Bool
+abbrev pub isSome : {A : Type 0} → Option A → Bool
 isSome none = false
 isSome (some k) = true
 
-pub mapped-found : (m : List Page) (x : ℕ) → isMapped m x ≡ isSome (found m x)
-mapped-found [] x = refl
-mapped-found (p ∷ m) x = go (eqb (p .at) x) (mapped-found m x)
-  where
-    go : (b : Bool) → isMapped m x ≡ isSome (found m x) → (b || isMapped m x) ≡ isSome (cond b (some (p .handle)) (found m x))
-    go true r = refl
-    go false r = r
-
-pub some-none : (o : Option ℕ) → not (isSome o) ≡ true → o ≡ none
+pub some-none : {A : Type 0} (o : Option A) → isSome o ≡ false → o ≡ none
 some-none none e = refl
-some-none (some k) e = absurd (false≢true e)
+some-none (some k) e = absurd (false≢true (sym e))
 
--- what every mapped page passes, the one that is found passes
-pub every-found : (t : Page → Bool) (m : List Page) (x k : ℕ) → every t m ≡ true → found m x ≡ some k → t (record { at = x; handle = k }) ≡ true
-every-found t [] x k e f = let z : _≡_ {A = ℕ} 0 1 = cc in absurd (omega arith)
-every-found t (p ∷ m) x k e f =
-    let q = both (t p) (every t m) e in
-    go (eqb (p .at) x) refl (q .0) (every-found t m x k (q .1)) f
-  where
-    go : (b : Bool) → eqb (p .at) x ≡ b → t p ≡ true → (found m x ≡ some k → t (record { at = x; handle = k }) ≡ true) →
-        cond b (some (p .handle)) (found m x) ≡ some k → t (record { at = x; handle = k }) ≡ true
-    go true h q r g =
-        let a : p .at ≡ x = eqb-true (p .at) x h in
-        let b : p .handle ≡ k = cc in
-        ap t (λ i. record { at = sym a i; handle = sym b i }) ∙ q
-    go false h q r g = r g
+pub some-is : {A : Type 0} (x y : A) → some x ≡ some y → x ≡ y
+some-is x y e = cc
 
--- what is found after an unmap
-pub found-filter : (a n : ℕ) (m : List Page) (x : ℕ) → found (filter (λ p. not (inside a n (p .at))) m) x ≡ cond (inside a n x) none (found m x)
-found-filter a n [] x = go (inside a n x)
-  where
-    go : (t : Bool) → _≡_ {A = Option ℕ} none (cond t none none)
-    go true = refl
-    go false = refl
-found-filter a n (p ∷ m) x =
-    ⊎-elim
-    (λ e. rw (eq-eqb (p .at) x e) (here e (inside a n (p .at)) (inside a n x) (ap (inside a n) e) (found-filter a n m x)))
-    (λ e. rw (ne-eqb (p .at) x e) (other e (inside a n (p .at)) (found-filter a n m x)))
-    (cases-eq (p .at) x)
-  where
-    rest : List Page
-    rest = filter (λ p. not (inside a n (p .at))) m
+pub some-not : {A : Type 0} (x : A) → some x ≡ none → ⊥
+some-not x e = let z : _≡_ {A = ℕ} 0 1 = cc in omega arith
 
-    here : p .at ≡ x → (t t′ : Bool) → t ≡ t′ → found rest x ≡ cond t′ none (found m x) →
-        found (cond (not t) (p ∷ rest) rest) x ≡ cond t′ none (some (p .handle))
-    here e true true f r = r
-    here e true false f r = absurd (false≢true (sym f))
-    here e false true f r = absurd (false≢true f)
-    here e false false f r = rw (eq-eqb (p .at) x e)
+-- What some pages showed they show still, where no page of them lost it.
+module _ {A : Type 0} where
+  pub carry : (u v : ℕ → Option A) (xs : List ℕ) (hs : List A) → All (λ x. (k : A) → u x ≡ some k → v x ≡ some k) xs → map u xs ≡ map some hs → map v xs ≡ map some hs
+  carry u v [] [] a e = refl
+  carry u v [] (k ∷ hs) a e = e
+  carry u v (x ∷ xs) [] a e = let z : _≡_ {A = ℕ} 0 1 = cc in absurd (omega arith)
+  carry u v (x ∷ xs) (k ∷ hs) a e =
+      let p : u x ≡ some k = cc in
+      let q : map u xs ≡ map some hs = cc in
+      λ i. a .0 k p i ∷ carry u v xs hs (a .1) q i
 
-    other : (p .at ≡ x → ⊥) → (t : Bool) → found rest x ≡ cond (inside a n x) none (found m x) →
-        found (cond (not t) (p ∷ rest) rest) x ≡ cond (inside a n x) none (found m x)
-    other e true r = r
-    other e false r = rw (ne-eqb (p .at) x e) r
+  -- where every page shows something, what they show is all there
+  pub gathered : (u : ℕ → Option A) (xs : List ℕ) → every (λ x. isSome (u x)) xs ≡ true → map u xs ≡ map some (there (map u xs))
+  gathered u [] e = refl
+  gathered u (x ∷ xs) e =
+      let b = both (isSome (u x)) (every (λ x. isSome (u x)) xs) e in
+      go (u x) (b .0) (gathered u xs (b .1))
+    where
+      go : (o : Option A) → isSome o ≡ true → map u xs ≡ map some (there (map u xs)) → (o ∷ map u xs) ≡ map some (there (o ∷ map u xs))
+      go none e r = absurd (false≢true e)
+      go (some k) e r = ap (λ l. some k ∷ l) r
 
--- Handles under pages. What lay under some pages lies there still, where no page of them lost its handle.
-pub carry : (u v : ℕ → Option ℕ) (xs hs : List ℕ) → All (λ x. (k : ℕ) → u x ≡ some k → v x ≡ some k) xs → map u xs ≡ map some hs → map v xs ≡ map some hs
-carry u v [] [] a e = refl
-carry u v [] (k ∷ hs) a e = e
-carry u v (x ∷ xs) [] a e = let z : _≡_ {A = ℕ} 0 1 = cc in absurd (omega arith)
-carry u v (x ∷ xs) (k ∷ hs) a e =
-    let p : u x ≡ some k = cc in
-    let q : map u xs ≡ map some hs = cc in
-    λ i. a .0 k p i ∷ carry u v xs hs (a .1) q i
-
--- where every page is mapped, the handles that are there are all
-pub gathered : (u : ℕ → Option ℕ) (xs : List ℕ) → every (λ x. isSome (u x)) xs ≡ true → map u xs ≡ map some (there (map u xs))
-gathered u [] e = refl
-gathered u (x ∷ xs) e =
-    let b = both (isSome (u x)) (every (λ x. isSome (u x)) xs) e in
-    go (u x) (b .0) (gathered u xs (b .1))
-  where
-    go : (o : Option ℕ) → isSome o ≡ true → map u xs ≡ map some (there (map u xs)) → (o ∷ map u xs) ≡ map some (there (o ∷ map u xs))
-    go none e r = absurd (false≢true e)
-    go (some k) e r = ap (λ l. some k ∷ l) r
-
-pub there-some : (hs : List ℕ) → there (map some hs) ≡ hs
-there-some [] = refl
-there-some (k ∷ hs) = ap (λ l. k ∷ l) (there-some hs)
+  pub there-some : (hs : List A) → there (map some hs) ≡ hs
+  there-some [] = refl
+  there-some (k ∷ hs) = ap (λ l. k ∷ l) (there-some hs)
 
 pub every-same : {A : Type 0} (p q : A → Bool) → ((x : A) → p x ≡ q x) → (l : List A) → every p l ≡ every q l
 every-same p q f [] = refl

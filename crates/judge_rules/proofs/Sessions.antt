@@ -51,7 +51,7 @@ unfolding said pages wholePages noneLive noHandleTwice credible inReservation ru
 example-accepted = refl
 
 -- the session A to N
-abbrev session : List Reading
+abbrev pub session : List Reading
 session =
     opening 4 40 0 ∷ driver Reserve 1000 40 0 ∷ result 1000 4 0
     ∷ malloc 8 1 ∷ driver Create 71 4 0 ∷ driver Map 1000 71 0 ∷ driver Create 72 4 0 ∷ driver Map 1004 72 0
@@ -71,9 +71,9 @@ session =
     ∷ malloc 6 1 ∷ result 6 0 6
     ∷ malloc 0 1 ∷ result 0 0 6
     ∷ malloc 40 1 ∷ driver AskedFor 4 1 0 ∷ driver Unmap 1012 4 0 ∷ driver Reserve 1040 40 0
-    ∷ driver Create 81 4 0 ∷ driver Map 1040 81 0 ∷ driver Create 82 4 0 ∷ driver Map 1044 82 0
-    ∷ driver Create 0 4 2 ∷ driver Unmap 1040 4 0 ∷ driver Release 81 0 0 ∷ driver Unmap 1044 4 0
-    ∷ driver Release 82 0 0 ∷ result 40 8 13
+    ∷ driver Create 76 4 0 ∷ driver Map 1040 76 0 ∷ driver Create 77 4 0 ∷ driver Map 1044 77 0
+    ∷ driver Create 0 4 2 ∷ driver Unmap 1040 4 0 ∷ driver Release 76 0 0 ∷ driver Unmap 1044 4 0
+    ∷ driver Release 77 0 0 ∷ result 40 8 13
     ∷ free 1016 ∷ driver RecordEvent 6 1 0 ∷ result 12 1 0
     ∷ malloc 16 1 ∷ driver Create 75 4 0 ∷ driver Map 1028 75 0 ∷ driver Access 1028 4 0
     ∷ driver RecordEvent 7 1 0 ∷ result 1016 16 0 ∷ []

@@ -3,5 +3,7 @@ pub mod Ranges
 pub mod Rules
 pub mod Sizes
 pub mod Verdict
+pub mod SoFar
 pub mod Meaning
+pub mod Exactly
 pub mod InBounds

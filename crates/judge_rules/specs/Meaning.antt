@@ -1,142 +1,132 @@
 -- docs/RULES.md 8.9: what a trace means, from its lines alone and not from the judge's state. The lines so far are a list, the newest first.
 use mathlib.Core.Path.{_≡_}
-use mathlib.Core.Bool.{true, cond, not}
+use mathlib.Core.Bool.{Bool, true, cond, _&&_, not}
 use mathlib.Core.List.{List, [], _∷_, map}
 use mathlib.Core.Option.{Option, none, some}
 use Prim.Native.Nat.{ℕ, _+_, _%_, _≤_, _<_}
 use lib.Dec.{eqb}
 use Rattle.lists.specs.Tests.{All, Pairs, Member, filter, distinct}
-use Rattle.words.specs.declared.Word.{Word}
-use Rattle.words.specs.declared.Word.the-variants.{
-  Reserve,
-  Create,
-  Map,
-  Access,
-  Unmap,
-  Release,
-  Record as RecordEvent,
-  Asked as AskedFor,
-  Wait,
-  Sync,
-  Giveback,
-}
 use Rattle.trace.specs.declared.Line.{Line}
 use Rattle.trace.specs.declared.Reading.{Reading}
 use Rattle.trace.specs.declared.Reading.the-variants.{Good, Malformed}
-use Rattle.judge_rules.specs.Said.{said, ifOpen, askedBy, nothingAsked}
-use Rattle.judge_rules.specs.Ranges.{inside, pages}
-use Rattle.judge_rules.specs.declared.Asked.{Asked}
-use Rattle.judge_rules.specs.declared.Call.{Call}
-use Rattle.judge_rules.specs.declared.Call.the-variants.{Open, Malloc, Free, Close}
-use Rattle.judge_rules.specs.declared.Said.{Said}
-use Rattle.judge_rules.specs.declared.Said.the-variants.{Record, Call as Calls, Result, Unknown}
+use Rattle.judge_rules.specs.Said.{said}
+use Rattle.judge_rules.specs.Ranges.{pages}
+use Rattle.judge_rules.specs.Rules.{Reservation}
+use Rattle.judge_rules.specs.SoFar.{isRecord, place, succeeds, pageSize, call, reservations, Held, held, Mapped, mapped}
+use Rattle.judge_rules.specs.declared.Call.the-variants.{Malloc, Free, Close}
 
--- The page size: the first number of the open.
-abbrev pub sizeBy : Said → Line → ℕ → ℕ
-sizeBy (Calls c) l p = ifOpen c (l .first) p
-sizeBy (Record w) l p = p
-sizeBy Result l p = p
-sizeBy Unknown l p = p
+-- What the page at an address shows: a handle, by the line that mapped it there and by the line that created it. A page that is unmapped and mapped anew,
+-- and a handle that is released and created anew, come from another line.
+pub record Shown : Type 0 where
+  pub handle : ℕ
+  pub mapped : ℕ
+  pub created : ℕ
 
-abbrev pub pageSize : List Line → ℕ
-pageSize [] = 0
-pageSize (l ∷ before) = sizeBy (said (l .kind)) l (pageSize before)
+-- the value of the first element with the key `x`
+abbrev pub lookup : {A B : Type 0} → (A → ℕ) → (A → Option B) → List A → ℕ → Option B
+lookup key value [] x = none
+lookup key value (y ∷ l) x = cond (eqb (key y) x) (value y) (lookup key value l x)
 
--- The call that the newest lines belong to.
-abbrev pub call : List Line → Asked
-call [] = nothingAsked
-call (l ∷ before) = askedBy (said (l .kind)) l (call before)
+-- the line that a held handle is from
+abbrev pub createdBy : List Held → ℕ → Option ℕ
+createdBy cs k = lookup (λ c. c .handle) (λ c. some (c .created)) cs k
 
--- The handle under the page at `x`: a map of code 0 at `x` puts one there, an unmap of code 0 over `x` takes it away.
-abbrev pub movedBy : Word → ℕ → ℕ → ℕ → Option ℕ → Option ℕ
-movedBy Map a b x k = cond (eqb a x) (some b) k
-movedBy Unmap a b x k = cond (inside a b x) none k
-movedBy Reserve a b x k = k
-movedBy Create a b x k = k
-movedBy Access a b x k = k
-movedBy Release a b x k = k
-movedBy RecordEvent a b x k = k
-movedBy AskedFor a b x k = k
-movedBy Wait a b x k = k
-movedBy Sync a b x k = k
-movedBy Giveback a b x k = k
+-- nothing is shown by a handle that is not held
+abbrev pub from : Mapped → Option ℕ → Option Shown
+from m none = none
+from m (some line) = some (record { handle = m .handle; mapped = m .mapped; created = line })
 
-abbrev pub underBy : Said → Line → ℕ → Option ℕ → Option ℕ
-underBy (Record w) l x k = cond (eqb (l .third) 0) (movedBy w (l .first) (l .second) x k) k
-underBy (Calls c) l x k = k
-underBy Result l x k = k
-underBy Unknown l x k = k
+abbrev pub shownBy : List Held → List Mapped → ℕ → Option Shown
+shownBy cs ms x = lookup (λ m. m .at) (λ m. from m (createdBy cs (m .handle))) ms x
 
-abbrev pub under : List Line → ℕ → Option ℕ
-under [] x = none
-under (l ∷ before) x = underBy (said (l .kind)) l x (under before x)
+abbrev pub shown : List Line → ℕ → Option Shown
+shown h x = shownBy (held h) (mapped h) x
 
--- A live buffer, with the handles that lay under its pages, in order, when it was handed over.
+-- A live buffer, with what its pages showed, in order, when it was handed over.
 pub record Buffer : Type 0 where
   pub start : ℕ
   pub size : ℕ
   pub stream : ℕ
-  pub handles : List ℕ
+  pub shown : List Shown
 
--- the numbers that are there
-abbrev pub there : List (Option ℕ) → List ℕ
+-- those that are there
+abbrev pub there : {A : Type 0} → List (Option A) → List A
 there [] = []
 there (none ∷ l) = there l
-there (some k ∷ l) = k ∷ there l
+there (some x ∷ l) = x ∷ there l
 
--- The live buffers: a malloc's result with answer 0 hands one over, a free's result with answer 0 ends the one at its address,
--- the first record of a close ends all (the later ones find none).
-abbrev pub answeredBy : Asked → Call → ℕ → ℕ → ℕ → (ℕ → Option ℕ) → List Buffer → List Buffer
-answeredBy q Malloc p a b u bs = record { start = a; size = b; stream = q .second; handles = there (map u (pages p a b)) } ∷ bs
-answeredBy q Free p a b u bs = filter (λ x. not (eqb (x .start) (q .first))) bs
-answeredBy q Open p a b u bs = bs
-answeredBy q Close p a b u bs = bs
+-- A malloc's result with 0 hands a buffer over; a free's ends the one at its address; a close's first record ends all, and the later ones find none.
+abbrev pub handedOver : Line → List Line → Buffer
+handedOver l before =
+    record {
+      start = l .first;
+      size = l .second;
+      stream = call before .second;
+      shown = there (map (shown before) (pages (pageSize before) (l .first) (l .second)));
+    }
 
-abbrev pub endedBy : Call → List Buffer → List Buffer
-endedBy Close bs = []
-endedBy Open bs = bs
-endedBy Malloc bs = bs
-endedBy Free bs = bs
-
-abbrev pub liveBy : Said → Line → ℕ → Asked → (ℕ → Option ℕ) → List Buffer → List Buffer
-liveBy Result l p q u bs = cond (eqb (l .third) 0) (answeredBy q (q .call) p (l .first) (l .second) u bs) bs
-liveBy (Record w) l p q u bs = endedBy (q .call) bs
-liveBy (Calls c) l p q u bs = bs
-liveBy Unknown l p q u bs = bs
+-- those of `bs` that a record leaves
+abbrev pub leftBy : List Line → List Buffer → List Buffer
+leftBy before bs = cond (eqb (place (call before .call)) (place Close)) [] bs
 
 abbrev pub live : List Line → List Buffer
 live [] = []
-live (l ∷ before) = liveBy (said (l .kind)) l (pageSize before) (call before) (under before) (live before)
+live (l ∷ before) =
+    cond (succeeds Malloc l before) (handedOver l before ∷ live before)
+    (cond (succeeds Free l before) (filter (λ b. not (eqb (b .start) (call before .first))) (live before))
+    (cond (isRecord (said (l .kind))) (leftBy before (live before))
+    (live before)))
 
--- the address `x` is in the buffer
+-- the address `x` is in the buffer; in the reservation
 abbrev pub Holds : Buffer → ℕ → Type 0
 Holds b x = (b .start ≤ x) × (x < b .start + b .size)
 
--- Two buffers have no address in common, and no handle.
+abbrev pub Reserves : Reservation → ℕ → Type 0
+Reserves r x = (r .base ≤ x) × (x < r .base + r .size)
+
+-- Two buffers, or two reservations, have no address in common; two buffers have no handle in common.
 abbrev pub NoAddress : Buffer → Buffer → Type 0
 NoAddress b c = (x : ℕ) → Holds b x → Holds c x → ⊥
 
+abbrev pub NoReserved : Reservation → Reservation → Type 0
+NoReserved r s = (x : ℕ) → Reserves r x → Reserves s x → ⊥
+
+abbrev pub handles : Buffer → List ℕ
+handles b = map (λ s. s .handle) (b .shown)
+
 abbrev pub NoHandle : Buffer → Buffer → Type 0
-NoHandle b c = (k : ℕ) → Member k (b .handles) → Member k (c .handles) → ⊥
+NoHandle b c = (k : ℕ) → Member k (handles b) → Member k (handles c) → ⊥
 
--- A buffer is whole pages, and under them lie, in order, the handles that it was handed over with.
-pub record Kept (p : ℕ) (u : ℕ → Option ℕ) (b : Buffer) : Type 0 where
+-- the page at `x` lies in one of the reservations
+pub record Within (p : ℕ) (rs : List Reservation) (x : ℕ) : Type 0 where
+  pub reservation : Reservation
+  pub one : Member reservation rs
+  pub whole : (reservation .base ≤ x) × (x + p ≤ reservation .base + reservation .size)
+
+-- A buffer, where the page size is `p`, `u x` is what the page at `x` shows and `rs` are the reservations that stand:
+pub record Kept (p : ℕ) (u : ℕ → Option Shown) (rs : List Reservation) (b : Buffer) : Type 0 where
+  -- it is whole pages;
   pub whole : (b .start % p ≡ 0) × (b .size % p ≡ 0)
-  pub same : map u (pages p (b .start) (b .size)) ≡ map some (b .handles)
+  -- each shows what it showed at the hand-over: the handle, held since the same creation, by the same map, so that nothing has unmapped it since;
+  pub same : map u (pages p (b .start) (b .size)) ≡ map some (b .shown)
+  -- and lies in a reservation that is not given back.
+  pub within : All (Within p rs) (pages p (b .start) (b .size))
 
--- What holds of live buffers `bs`, where the page size is `p` and `u x` lies under `x`:
-pub record Sound (p : ℕ) (u : ℕ → Option ℕ) (bs : List Buffer) : Type 0 where
+-- What holds of the live buffers `bs`:
+pub record Sound (p : ℕ) (u : ℕ → Option Shown) (rs : List Reservation) (bs : List Buffer) : Type 0 where
   -- no two of them have an address in common;
   pub apart : Pairs NoAddress bs
-  -- every page of each is mapped, to the handle that was there at the hand-over;
-  pub kept : All (Kept p u) bs
-  -- no handle lies under two of them or twice under one.
+  -- each keeps its pages;
+  pub kept : All (Kept p u rs) bs
+  -- no handle lies under two of them or twice under one;
   pub own : Pairs NoHandle bs
-  pub once : All (λ b. distinct (b .handles) ≡ true) bs
+  pub once : All (λ b. distinct (handles b) ≡ true) bs
+  -- and no two reservations that stand have an address in common.
+  pub reserved : Pairs NoReserved rs
 
 -- the same of the lines so far
 abbrev pub SoundAfter : List Line → Type 0
-SoundAfter h = Sound (pageSize h) (under h) (live h)
+SoundAfter h = Sound (pageSize h) (shown h) (reservations h) (live h)
 
 -- the lines of a trace behind those of `before`, the newest first; a malformed one says nothing
 abbrev pub newestFirst : List Line → List Reading → List Line

@@ -34,7 +34,7 @@ use Rattle.keeping.proofs.WellFormedEnters.{Entered, enters, entry-span
 use Rattle.keeping.proofs.WellFormedLeaves.{well-formed}
 
 -- a well-formed pool that is not stopped is open
-is-open : (p : Pool) → wellFormed p ≡ true → eqb (p .state) stopped ≡ false → p .state ≡ opened
+pub is-open : (p : Pool) → wellFormed p ≡ true → eqb (p .state) stopped ≡ false → p .state ≡ opened
 unfolding wellFormed
 is-open p w e =
     let b = both (ceilingsKept p) (eqb (p .state) stopped || (eqb (p .state) opened && sound (atEntry p))) w in

@@ -27,6 +27,16 @@ holds-to {A} {m} {E} {P} {Q} {R} f h = record { leaves = λ xs k t p. go (m xs k
     go t (on a) q = f a t q
     go t (ends o) q = q
 
+-- two triples of one step, as one
+pub holds-both : {A : Type 0} {m : Step A} {P R : Tables → Type 0} {Q S : A → Tables → Type 0} {E F G : Outcome → Tables → Type 0} →
+    ((o : Outcome) (t : Tables) → E o t → F o t → G o t) → Holds P m Q E → Holds R m S F → Holds (λ t. P t × R t) m (λ a t. Q a t × S a t) G
+holds-both {A} {m} {P} {R} {Q} {S} {E} {F} {G} f h g =
+    record { leaves = λ xs k t p. go (m xs k t .tables) (m xs k t .ending) (h .leaves xs k t (p .0)) (g .leaves xs k t (p .1)) }
+  where
+    go : (t : Tables) (e : Ending A) → After Q E t e → After S F t e → After (λ a t. Q a t × S a t) G t e
+    go t (on a) q r = (q, r)
+    go t (ends o) q r = f o t q r
+
 -- the tables that a step starts from, by name
 pub holds-named : {A : Type 0} {m : Step A} {P : Tables → Type 0} {Q : A → Tables → Type 0} {E : Outcome → Tables → Type 0} →
     ((u : Tables) → P u → Holds (λ t. t ≡ u) m Q E) → Holds P m Q E

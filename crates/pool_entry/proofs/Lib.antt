@@ -1,3 +1,4 @@
 pub mod Reading
 pub mod Entering
 pub mod ZeroCells
+pub mod Exact

@@ -1,12 +1,12 @@
 // Whether a table stands as a call of ours leaves it: in ascending address, with zeros past its count. Each test is one function, as each function that
 // reads a table costs a copy of it. Past the count the numbers of a field are joined by `|`, without a test of each: so the compiler looks at several at once.
 ghost use mathlib.Core.Path.{_≡_};
-ghost use mathlib.Core.Bool.{true};
 ghost use Prim.Native.Nat.{_≤_};
 ghost use Rattle.lists.specs.Order.{sorted};
 ghost use Rattle.tables.specs.Bounds.{HOLES, PAGES, ROOTS, SPANS, ZOMBIES};
 ghost use Rattle.tables.specs.Values.{freeOf, liveOf, holesOf, pagesOf};
 ghost use Rattle.tables.specs.Kept.{KeptFree, KeptLive, KeptHoles, KeptZombies, KeptPages, KeptRoots};
+ghost use Rattle.pool_entry.specs.Promises.{Tells};
 use tables::FreeRegions;
 use tables::Holes;
 use tables::LiveBuffers;
@@ -17,7 +17,7 @@ use tables::Zombies;
 
 pub fn regions_stand(t: FreeRegions) -> bool
     requires { ⌜ t .count ≤ SPANS ⌝ }
-    ensures { λ r. ⌜ (r ≡ true → KeptFree t × (sorted (λ q. q .start .0) (freeOf t) ≡ freeOf t)) ⌝ }
+    ensures { λ r. ⌜ Tells r (KeptFree t × (sorted (λ q. q .start .0) (freeOf t) ≡ freeOf t)) ⌝ }
 {
     let count = t.count;
     let mut least: u64 = 0;
@@ -48,7 +48,7 @@ pub fn regions_stand(t: FreeRegions) -> bool
 
 pub fn buffers_stand(t: LiveBuffers) -> bool
     requires { ⌜ t .count ≤ SPANS ⌝ }
-    ensures { λ r. ⌜ (r ≡ true → KeptLive t × (sorted (λ b. b .start .0) (liveOf t) ≡ liveOf t)) ⌝ }
+    ensures { λ r. ⌜ Tells r (KeptLive t × (sorted (λ b. b .start .0) (liveOf t) ≡ liveOf t)) ⌝ }
 {
     let count = t.count;
     let mut least: u64 = 0;
@@ -77,7 +77,7 @@ pub fn buffers_stand(t: LiveBuffers) -> bool
 
 pub fn holes_stand(t: Holes) -> bool
     requires { ⌜ t .count ≤ HOLES ⌝ }
-    ensures { λ r. ⌜ (r ≡ true → KeptHoles t × (sorted (λ h. h .start .0) (holesOf t) ≡ holesOf t)) ⌝ }
+    ensures { λ r. ⌜ Tells r (KeptHoles t × (sorted (λ h. h .start .0) (holesOf t) ≡ holesOf t)) ⌝ }
 {
     let count = t.count;
     let mut least: u64 = 0;
@@ -104,7 +104,7 @@ pub fn holes_stand(t: Holes) -> bool
 
 pub fn pages_stand(t: Pages) -> bool
     requires { ⌜ t .count ≤ PAGES ⌝ }
-    ensures { λ r. ⌜ (r ≡ true → KeptPages t × (sorted (λ g. g .start .0) (pagesOf t) ≡ pagesOf t)) ⌝ }
+    ensures { λ r. ⌜ Tells r (KeptPages t × (sorted (λ g. g .start .0) (pagesOf t) ≡ pagesOf t)) ⌝ }
 {
     let count = t.count;
     let mut least: u64 = 0;
@@ -132,7 +132,7 @@ pub fn pages_stand(t: Pages) -> bool
 // Zombies and roots stand in any order.
 pub fn zombies_stand(t: Zombies) -> bool
     requires { ⌜ t .count ≤ ZOMBIES ⌝ }
-    ensures { λ r. ⌜ (r ≡ true → KeptZombies t) ⌝ }
+    ensures { λ r. ⌜ Tells r (KeptZombies t) ⌝ }
 {
     let mut i = t.count;
     let mut starts: u64 = 0;
@@ -151,7 +151,7 @@ pub fn zombies_stand(t: Zombies) -> bool
 
 pub fn roots_stand(t: Roots) -> bool
     requires { ⌜ t .count ≤ ROOTS ⌝ }
-    ensures { λ r. ⌜ (r ≡ true → KeptRoots t) ⌝ }
+    ensures { λ r. ⌜ Tells r (KeptRoots t) ⌝ }
 {
     let mut i = t.count;
     while i < Pool::ROOTS {

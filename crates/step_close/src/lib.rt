@@ -41,22 +41,24 @@ fn count_tell(
 {
     let answer = tell(answers, log, made, word, first, second);
     let n = made + 1;
-    match answer {
-        Answer::Done(_) => Closing {
-            failed,
-            ended: Ended::On,
-            made: n,
-        },
-        Answer::Failed(_) => Closing {
+    let Answer::Done(_) = answer else {
+        let Answer::Failed(_) = answer else {
+            return Closing {
+                failed,
+                ended: Ended::Ends(Outcome::AnswersRanOut),
+                made: n,
+            };
+        };
+        return Closing {
             failed: failed + 1,
             ended: Ended::On,
             made: n,
-        },
-        Answer::Missing => Closing {
-            failed,
-            ended: Ended::Ends(Outcome::AnswersRanOut),
-            made: n,
-        },
+        };
+    };
+    Closing {
+        failed,
+        ended: Ended::On,
+        made: n,
     }
 }
 

@@ -3,5 +3,4 @@ pub mod Carried
 pub mod Counted
 pub mod Unmaking
 pub mod Making
-pub mod Answers
 pub mod Placed

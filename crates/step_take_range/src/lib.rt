@@ -32,11 +32,13 @@ pub struct Took {
 fn reserve_ended(answer: Answer, page: u64, va: u64) -> Ended
     ensures { λ r. ⌜ r ≡ reserveEnded page va answer ⌝ }
 {
-    match answer {
-        Answer::Done(_) => Ended::On,
-        Answer::Failed(_) => Ended::Ends(Outcome::ReserveFailed(va, page)),
-        Answer::Missing => Ended::Ends(Outcome::AnswersRanOut),
-    }
+    let Answer::Done(_) = answer else {
+        let Answer::Failed(_) = answer else {
+            return Ended::Ends(Outcome::AnswersRanOut);
+        };
+        return Ended::Ends(Outcome::ReserveFailed(va, page));
+    };
+    Ended::On
 }
 
 // A new root, whose rest becomes a hole.

@@ -8,7 +8,7 @@ use Rattle.words.specs.Words.{reserve, create, map, access, unmap, release, rec
 use Rattle.tables.specs.Calls.{mallocs, frees}
 use Rattle.tables.specs.Session.{Row, openRow, row, played, holding, repliedBy}
 
-abbrev aToN : List Row
+abbrev pub aToN : List Row
 aToN =
     -- open
     openRow 4 40 0

@@ -2,6 +2,7 @@
 use native.Mathlib.Omega.{arith}
 use borrow.Author.Needs.{needs}
 use Rattle.words.specs.declared.Answer.the-variants.{Done, Failed, Missing}
+use Rattle.driving.proofs.Answers.{only-missing}
 use Rattle.step_close.proofs.Counting.{gave, next, stop, told}
 use Rattle.step_close.proofs.Turns.{not-ends, ends-once}
 use Rattle.step_close.proofs.count_tell.Statement.{statement}
@@ -25,9 +26,6 @@ enum-told-2 c = search needs
 add-t14 : tie.Need-add-t14
 add-t14 c = search needs
 
-enum-told-3 : tie.Need-enum-told-3
-enum-told-3 c = search needs
-
 same-length : tie.Need-same-length
 same-length c = search needs
 
@@ -36,8 +34,8 @@ returns c =
     let w = c .before .before .before .before in
     let s = at-entry w in
     record {
-      ran = λ t. next _ (told (s .args .word) (s .args .first) (s .args .second) (Done _) (rw (c .enum-told .given .1) at (w .tell .ensures t)) (omega arith)) gave;
-      only = λ o e. not-ends e;
+      ran = λ t. stop _ (told (s .args .word) (s .args .first) (s .args .second) Missing (rw (only-missing (w .tell .result) (c .before .match .keys2) (c .match2 .keys2)) at (w .tell .ensures t)) (omega arith));
+      only = λ o e. ends-once e;
       most = omega arith;
       few = omega (arith, s .pre .0);
     }
@@ -47,7 +45,7 @@ same-length-2 c = search needs
 
 returns-2 : tie.Need-returns-2
 returns-2 c =
-    let w = c .before .before .before .before in
+    let w = c .before .before .before .before .before in
     let s = at-entry w in
     record {
       ran = λ t. next _ (told (s .args .word) (s .args .first) (s .args .second) (Failed _) (rw (c .enum-told2 .given .1) at (w .tell .ensures t)) (omega arith)) gave;
@@ -64,8 +62,8 @@ returns-3 c =
     let w = c .before .before .before .before in
     let s = at-entry w in
     record {
-      ran = λ t. stop _ (told (s .args .word) (s .args .first) (s .args .second) Missing (rw (c .enum-told3 .given .1) at (w .tell .ensures t)) (omega arith));
-      only = λ o e. ends-once e;
+      ran = λ t. next _ (told (s .args .word) (s .args .first) (s .args .second) (Done _) (rw (c .enum-told .given .1) at (w .tell .ensures t)) (omega arith)) gave;
+      only = λ o e. not-ends e;
       most = omega arith;
       few = omega (arith, s .pre .0);
     }
@@ -78,10 +76,9 @@ count-tell-spec =
     add-n
     enum-told
     enum-told-2
-    add-t14
-    enum-told-3
     same-length
     returns
+    add-t14
     same-length-2
     returns-2
     same-length-3

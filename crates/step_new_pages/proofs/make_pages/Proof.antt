@@ -20,7 +20,7 @@ use Rattle.driving.specs.Ran.{Ran, point}
 use Rattle.driving.specs.Endings.{ending}
 use Rattle.driving.proofs.Ran.{gave}
 use Rattle.step_new_pages.specs.Promises.{roomOf, paging}
-use Rattle.step_new_pages.proofs.Answers.{only-missing}
+use Rattle.driving.proofs.Answers.{only-missing}
 use Rattle.step_new_pages.proofs.Turns.{
   make-missing,
   make-back,
