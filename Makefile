@@ -1,10 +1,10 @@
 .PHONY: run test compare bench finder
 
 run:
-	@bash scripts/runnable replay judge
-	@target/run/replay <sessions/a-to-n.trace >target/a-to-n.trace
+	@bash scripts/runnable replay replay_tables judge summary
+	@target/run/replay sessions/a-to-n.trace >target/a-to-n.trace
 	@cat target/a-to-n.trace
-	@target/run/judge <target/a-to-n.trace
+	@bash scripts/verdict target/a-to-n.trace
 
 test:
 	@bash .ci/run
@@ -20,4 +20,4 @@ bench:
 	@bash bench/run
 
 finder:
-	@CC="$(CC)" RUN="$(RUN)" bash finder/run
+	@CC="$(CC)" CXX="$(CXX)" RUN="$(RUN)" bash finder/run

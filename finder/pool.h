@@ -10,6 +10,9 @@
 extern "C" {
 #endif
 
+/* The version of this file and of the library: it changes whenever the layout or an answer does. finder/pool_run.h compares the two before each call. */
+#define POOL_VERSION 1
+
 /* The ceilings. */
 enum {
     POOL_PAGES = 256,   /* active pages */
@@ -107,13 +110,17 @@ typedef struct {
 } pool_reply;
 
 /* `answers` are pairs of code and value, `answers_len` and `log_len` count numbers. Neither pointer may be null, whatever the length; both are aligned to
-   8 bytes, and the two arrays don't overlap. Nothing else is asked: every pool value, size, address, stream, answer and length is answered. */
+   8 bytes, and the two arrays don't overlap. Nothing else is asked: every pool value, size, address, stream, answer and length is answered. To have a call
+   run to its end, with its driver calls made, see finder/pool_run.h. */
 
 pool_reply pool_open(uint64_t granularity, uint64_t override_size, uint64_t va_size, uint64_t initial_pages, uint64_t initial_stream,
                      const uint64_t *answers, size_t answers_len, uint64_t *log, size_t log_len);
 pool_reply pool_malloc(pool_value pool, uint64_t bytes, uint64_t stream, const uint64_t *answers, size_t answers_len, uint64_t *log, size_t log_len);
 pool_reply pool_free(pool_value pool, uint64_t address, const uint64_t *answers, size_t answers_len, uint64_t *log, size_t log_len);
 pool_reply pool_close(pool_value pool, const uint64_t *answers, size_t answers_len, uint64_t *log, size_t log_len);
+
+/* The library's own POOL_VERSION. */
+uint64_t pool_version(void);
 
 #ifdef __cplusplus
 }

@@ -1,11 +1,9 @@
-/* The stack that a call needs: each call of a session is made on a thread whose stack is painted, and the paint that is gone is counted, with the caller's own
-   copies of pool and reply. Frames have fixed sizes, so what counts is which functions are reached, not how full the pool is: the session makes room, pulls on
-   its own and on another stream, rolls back, and hands each call pools that must be put in order first. */
+/* The stack that a call needs: each call of a session is made on a thread whose stack is painted, and the paint that is gone is counted, with what
+   finder/pool_run.h needs, its copies of pool and reply among it. Frames have fixed sizes, so what counts is which functions are reached, not how full the pool
+   is: the session makes room, pulls on its own and on another stream, rolls back, and hands each call pools that must be put in order first. */
 #define _POSIX_C_SOURCE 200809L
-#include "../pool.h"
+#include "../pool_run.h"
 #include <pthread.h>
-#include <stdio.h>
-#include <stdlib.h>
 
 enum { OPEN, MALLOC, FREE, CLOSE, CALLS, PAINTED = 4 << 20 };
 #define PAGE ((uint64_t)64)
@@ -13,31 +11,37 @@ enum { OPEN, MALLOC, FREE, CLOSE, CALLS, PAINTED = 4 << 20 };
 
 static _Alignas(4096) uint64_t stack[PAINTED / sizeof(uint64_t)];
 static const uint64_t paint = 0xa5a5a5a5a5a5a5a5;
-static uint64_t answers[POOL_ANSWERS], log_[POOL_LOG];
-static pool_value pool;
-static struct { int word; uint64_t first, second, answer, result; } call;
+static uint64_t answers[POOL_ANSWERS];
+static size_t taken; /* pairs of them, by the call that runs */
+static pool_runner runner;
+static struct { int word; uint64_t first, second; pool_result result; } call;
 static size_t most[CALLS];
+
+static pool_answer drive(void *unused, const pool_record *wanted) {
+    const pool_answer answer = {answers[2 * taken], answers[2 * taken + 1]};
+    (void)unused, (void)wanted;
+    taken++;
+    return answer;
+}
 
 /* Only what the call itself needs is done here. */
 static void *make_call(void *unused) {
-    pool_reply r;
+    const pool_config config = {PAGE, 0, VA, call.first, call.second};
     if (call.word == OPEN)
-        r = pool_open(PAGE, 0, VA, call.first, call.second, answers, POOL_ANSWERS, log_, POOL_LOG);
+        call.result = pool_run_open(&runner, config);
     else if (call.word == MALLOC)
-        r = pool_malloc(pool, call.first, call.second, answers, POOL_ANSWERS, log_, POOL_LOG);
+        call.result = pool_run_malloc(&runner, call.first, call.second);
     else if (call.word == FREE)
-        r = pool_free(pool, call.first, answers, POOL_ANSWERS, log_, POOL_LOG);
+        call.result = pool_run_free(&runner, call.first);
     else
-        r = pool_close(pool, answers, POOL_ANSWERS, log_, POOL_LOG);
-    pool = r.pool;
-    call.answer = r.answer;
-    call.result = r.first;
+        call.result = pool_run_close(&runner);
     return unused;
 }
 
 /* Every driver call is done, and its value stands nowhere else: a base that overlaps no root, or a handle. No event is complete. */
 static void lend(void) {
     static uint64_t last;
+    taken = 0;
     for (size_t i = 0; i < POOL_ANSWERS; i += 2) {
         answers[i] = 0;
         answers[i + 1] = ++last * VA;
@@ -61,21 +65,21 @@ static uint64_t run(int word, uint64_t first, uint64_t second, uint64_t answer) 
     size_t used = sizeof stack - left * sizeof paint;
     if (used > most[word])
         most[word] = used;
-    if (call.answer != answer) {
-        fprintf(stderr, "stack: call %d answers %d, not %d\n", word, (int)call.answer, (int)answer);
+    if (call.result.answer != answer) {
+        fprintf(stderr, "stack: call %d answers %d, not %d\n", word, (int)call.result.answer, (int)answer);
         exit(1);
     }
     lend();
-    return call.result;
+    return call.result.first;
 }
 
 /* The first two entries of each table that is kept in order change places. */
 static void put_out_of_order(void) {
-#define SWAP(table, type)                          \
-    if (pool.table.count > 1) {                    \
-        const type first = pool.table.cells[0];    \
-        pool.table.cells[0] = pool.table.cells[1]; \
-        pool.table.cells[1] = first;               \
+#define SWAP(table, type)                                        \
+    if (runner.pool.table.count > 1) {                           \
+        const type first = runner.pool.table.cells[0];           \
+        runner.pool.table.cells[0] = runner.pool.table.cells[1]; \
+        runner.pool.table.cells[1] = first;                      \
     }
     SWAP(free, pool_free_region)
     SWAP(live, pool_live_buffer)
@@ -84,6 +88,7 @@ static void put_out_of_order(void) {
 }
 
 int main(void) {
+    pool_run_setup(&runner, drive, NULL, NULL);
     lend();
     run(OPEN, 20, 1, POOL_ANSWER_DONE);
     run(CLOSE, 0, 0, POOL_ANSWER_DONE);
@@ -97,7 +102,7 @@ int main(void) {
     b = run(MALLOC, 4 * PAGE, 3, POOL_ANSWER_DONE);
     answers[1] = 1; /* the first zombie's event is complete */
     run(MALLOC, PAGE, 4, POOL_ANSWER_DONE);
-    answers[2 * (pool.zombies.count + 2 * 5)] = 2; /* behind those that are asked for, the sixth page */
+    answers[2 * (runner.pool.zombies.count + 2 * 5)] = 2; /* behind those that are asked for, the sixth page */
     run(MALLOC, 40 * PAGE, 4, POOL_ANSWER_OUT_OF_MEMORY);
     run(FREE, c, 0, POOL_ANSWER_DONE);
     put_out_of_order();

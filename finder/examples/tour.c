@@ -1,103 +1,71 @@
 /* A tour of the pool from C, on a made-up driver: two streams, a buffer that outgrows its place, a zombie and its end. It prints the trace of the session,
-   which target/bin/judge accepts. */
-#include "../pool.h"
-#include <inttypes.h>
-#include <stdio.h>
-#include <stdlib.h>
+   which target/run/judge accepts. */
+#include "pool_run.h"
 
-enum { MIB = 1 << 20 };
-#define PAGE ((uint64_t)2 * MIB)
-#define VA ((uint64_t)64 * MIB)
+#define PAGE ((uint64_t)2 << 20)
+#define VA (32 * PAGE)
 
 /* The driver. A real one calls cuMemAddressReserve, cuMemCreate, cuMemMap and so on (docs/USING.md); this one invents bases and handles. An event is
    complete when it is asked for the second time. */
-static struct { uint64_t base, handle; unsigned char asked[64]; } driver = {.base = VA, .handle = 71};
+typedef struct { uint64_t base, handle; unsigned char asked[64]; } driver;
 
-/* Makes the driver call that a record wants; `answer` is its code and value. */
-static void drive(const uint64_t *record, uint64_t *answer) {
-    answer[0] = answer[1] = 0;
-    switch (record[0]) {
+/* Makes one driver call: a pool_drive. */
+static pool_answer drive(void *context, const pool_record *call) {
+    driver *made_up = (driver *)context;
+    pool_answer answer = {0, 0}; /* code and value */
+    switch (call->kind) {
     case POOL_WORD_RESERVE:
-        answer[1] = driver.base;
-        driver.base += 2 * record[2];
+        answer.value = made_up->base;
+        made_up->base += 2 * call->second;
         break;
     case POOL_WORD_CREATE:
-        answer[1] = driver.handle++;
+        answer.value = made_up->handle++;
         break;
     case POOL_WORD_ASKED:
-        answer[1] = driver.asked[record[1] % 64]++ > 0;
+        answer.value = made_up->asked[call->first % 64]++ > 0;
         break;
     }
+    return answer;
 }
 
-enum { OPEN, MALLOC, FREE, CLOSE };
-typedef struct { int word; uint64_t first, second, third; } call;
-
-/* The pool and what is lent to its calls. One owner holds them: there is nothing else to guard. */
-static pool_value pool;
-static uint64_t answers[POOL_ANSWERS], log_[POOL_LOG];
-
-/* The call on the answers that are known so far. */
-static pool_reply once(call c, size_t known) {
-    switch (c.word) {
-    case OPEN:
-        return pool_open(c.first, 0, c.second, c.third, 0, answers, 2 * known, log_, POOL_LOG);
-    case MALLOC:
-        return pool_malloc(pool, c.first, c.second, answers, 2 * known, log_, POOL_LOG);
-    case FREE:
-        return pool_free(pool, c.first, answers, 2 * known, log_, POOL_LOG);
-    default:
-        return pool_close(pool, answers, 2 * known, log_, POOL_LOG);
-    }
-}
-
-static void line(const char *word, uint64_t first, uint64_t second, uint64_t third) {
-    printf("%s\t%" PRIu64 "\t%" PRIu64 "\t%" PRIu64 "\n", word, first, second, third);
-}
-
-/* Where the answers run out, the log ends with the driver call that is wanted next: it is made, its answer is added, and the call is run again from the
-   same pool. Any other answer is final. */
-static uint64_t run(call c) {
-    static const char *const calls[] = {"open", "malloc", "free", "close"};
-    static const char *const words[] = {"", "reserve", "create", "map", "access", "unmap", "release", "record", "asked", "wait", "sync", "giveback"};
-    pool_reply r = once(c, 0);
-    for (size_t known = 0; r.answer == POOL_ANSWER_ANSWERS_RAN_OUT; r = once(c, known)) {
-        drive(log_ + POOL_RECORD_NUMBERS * (r.records - 1), answers + 2 * known);
-        known++;
-    }
-    pool = r.pool;
-    line(calls[c.word], c.first, c.second, c.third);
-    for (size_t i = 0; i < r.records; i++) {
-        const uint64_t *record = log_ + POOL_RECORD_NUMBERS * i;
-        line(words[record[0]], record[1], record[2], record[3]);
-    }
-    line("result", r.first, r.second, r.answer);
-    if (r.answer != POOL_ANSWER_DONE) {
-        fprintf(stderr, "tour: the pool answers %" PRIu64 " (%" PRIu64 ", %" PRIu64 ")\n", r.answer, r.first, r.second);
-        exit(1);
-    }
-    return r.first;
+/* The first value of a call that was served. Any answer but 0 ends the tour. */
+static uint64_t served(const char *call, pool_result result) {
+    if (result.answer == POOL_ANSWER_DONE)
+        return result.first;
+    fprintf(stderr, "tour: %s is answered %" PRIu64 " (%" PRIu64 ", %" PRIu64 "): %s\n", call, result.answer, result.first, result.second,
+            pool_answer_text(result.answer));
+    exit(1);
 }
 
 int main(void) {
-    run((call){OPEN, PAGE, VA, 0});
-    uint64_t a = run((call){MALLOC, 2 * PAGE, 1, 0});
-    uint64_t b = run((call){MALLOC, PAGE, 2, 0});
-    run((call){FREE, a, 0, 0});
+    static pool_runner runner; /* 180 KB: not on the stack */
+    driver made_up = {VA, 71, {0}};
+    pool_config config = {0, 0, 0, 0, 0};
+    config.granularity = PAGE;
+    config.va_size = VA;
+
+    pool_run_setup(&runner, drive, &made_up, stdout);
+    served("the open", pool_run_open(&runner, config));
+    uint64_t a = served("the malloc of a", pool_run_malloc(&runner, 2 * PAGE, 1));
+    uint64_t b = served("the malloc of b", pool_run_malloc(&runner, PAGE, 2));
+    served("the free of a", pool_run_free(&runner, a));
     /* three pages where two are free and one is missing: a's two move behind a new one, and their old place is a zombie */
-    uint64_t c = run((call){MALLOC, 3 * PAGE, 1, 0});
-    size_t made = pool.zombies.count;
+    uint64_t c = served("the malloc of c", pool_run_malloc(&runner, 3 * PAGE, 1));
+    size_t made = runner.pool.zombies.count;
     /* the first time that its event is asked for, it is not complete, the second time it is: the old place is unmapped, and a hole */
-    uint64_t d = run((call){MALLOC, PAGE, 2, 0});
-    uint64_t e = run((call){MALLOC, PAGE, 2, 0});
-    if (made != 1 || pool.zombies.count != 0) {
-        fprintf(stderr, "tour: %zu zombies were made, %zu are left\n", made, pool.zombies.count);
+    uint64_t d = served("the malloc of d", pool_run_malloc(&runner, PAGE, 2));
+    uint64_t e = served("the malloc of e", pool_run_malloc(&runner, PAGE, 2));
+    if (made != 1 || runner.pool.zombies.count != 0) {
+        fprintf(stderr, "tour: %zu zombies were made, %zu are left\n", made, runner.pool.zombies.count);
         return 1;
     }
-    run((call){FREE, b, 0, 0});
-    run((call){FREE, c, 0, 0});
-    run((call){FREE, d, 0, 0});
-    run((call){FREE, e, 0, 0});
-    run((call){CLOSE, 0, 0, 0});
+    served("the free of b", pool_run_free(&runner, b));
+    served("the free of c", pool_run_free(&runner, c));
+    served("the free of d", pool_run_free(&runner, d));
+    served("the free of e", pool_run_free(&runner, e));
+    if (served("the close", pool_run_close(&runner)) != 0) {
+        fprintf(stderr, "tour: a driver call of the close failed\n");
+        return 1;
+    }
     return 0;
 }

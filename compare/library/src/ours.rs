@@ -11,6 +11,7 @@ use original::driver::{Answers as _, Record, Word};
 pub struct Card {
     pub card: RandomCard,
     seen: Vec<Record>,
+    passed_over: Vec<Record>,
     happened: Option<Told>,
 }
 
@@ -26,6 +27,7 @@ impl Card {
         Self {
             card,
             seen: Vec::new(),
+            passed_over: Vec::new(),
             happened: None,
         }
     }
@@ -33,6 +35,11 @@ impl Card {
     /// The driver calls since the last time.
     pub fn take_seen(&mut self) -> Vec<Record> {
         std::mem::take(&mut self.seen)
+    }
+
+    /// The failures since the last time that, so the pool says, ended no call.
+    pub fn take_passed_over(&mut self) -> Vec<Record> {
+        std::mem::take(&mut self.passed_over)
     }
 
     /// The one call that was told since the last time.
@@ -69,6 +76,10 @@ impl Answers for Card {
             runs: call.runs,
         });
     }
+
+    fn warned(&mut self, failed: caldarimpu::Record) {
+        self.passed_over.push(record_of(&failed));
+    }
 }
 
 fn outcome_of(call: &Happened) -> Outcome {
@@ -84,7 +95,7 @@ fn outcome_of(call: &Happened) -> Outcome {
 }
 
 /// The same record, as the Rust's driver has it.
-fn record_of(record: &caldarimpu::Record) -> Record {
+pub fn record_of(record: &caldarimpu::Record) -> Record {
     let word = compare::text::driver_word(record.word.name());
     Record {
         word: word.expect("the words are the same"),

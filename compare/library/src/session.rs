@@ -5,16 +5,17 @@ use compare::{
     generate::generate,
     replay::Step,
     scale::plan::{Planned, PATIENCE},
-    session::{Answered, Call},
+    session::{Answered, Call, Outcome},
     text::{tables_text, trace_of},
     words::Failure,
 };
 
 use caldarimpu::Refusal;
+use original::driver::{Record, Word};
 
 use crate::{
     count::Count,
-    ours::{Card, Ours},
+    ours::{record_of, Card, Ours},
     tables::tables_of,
 };
 
@@ -94,6 +95,7 @@ impl Follower<'_> {
             return Err(format!("told is {:?}", told.outcome));
         }
         check_values(wanted.result, values)?;
+        check_failures(wanted, values.err(), &self.card.take_passed_over())?;
         let tables = self.ours.0.as_ref().map(|pool| tables_of(pool.value()));
         if tables != step.after {
             let (wanted, other) = (step.after.as_ref(), tables.as_ref());
@@ -130,12 +132,37 @@ impl Follower<'_> {
 fn check_values(result: Answered, values: Result<(u64, u64), Refusal>) -> Result<(), String> {
     let agrees = match values {
         Ok(values) => result.answer == 0 && values == (result.first, result.second),
-        Err(refusal) => result.answer == refusal.number(),
+        Err(refusal) => refusal.number() == Some(result.answer),
     };
     if agrees {
         return Ok(());
     }
     Err(format!("{result:?} is given as {values:?}"))
+}
+
+/// Of the driver calls that failed one may be what the call answers, and is the refusal's own; all
+/// others are passed over.
+fn check_failures(
+    wanted: &Outcome,
+    refusal: Option<Refusal>,
+    passed_over: &[Record],
+) -> Result<(), String> {
+    let answered = match refusal {
+        Some(Refusal::DriverFailed { record, .. }) => Some(record_of(&record)),
+        Some(Refusal::ReserveFailed { .. }) => wanted.records.last().copied(),
+        Some(Refusal::OutOfMemory { .. }) => {
+            let creates = |record: &&Record| record.word == Word::Create && record.code == 2;
+            wanted.records.iter().find(creates).copied()
+        }
+        _ => None,
+    };
+    let failed = (wanted.records.iter().copied()).filter(|record| record.code != 0);
+    let (answers, others): (Vec<Record>, Vec<Record>) =
+        failed.partition(|record| Some(*record) == answered);
+    if answers.len() == usize::from(answered.is_some()) && others == passed_over {
+        return Ok(());
+    }
+    Err(format!("{refusal:?}, and passed over are {passed_over:?}"))
 }
 
 fn same(what: &str, wanted: &str, other: &str) -> Result<(), String> {

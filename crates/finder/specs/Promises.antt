@@ -11,6 +11,10 @@ use Rattle.tables.specs.Outcomes.{numbers}
 use Rattle.calls.specs.declared.Pool.{Pool}
 use Rattle.finder.specs.declared.Reply.{Reply}
 
+-- The version of the layout and of the answers.
+abbrev pub version : ℕ
+version = 1
+
 -- The pool, the numbers, how many records stand in the log and how many answers were taken.
 abbrev pub told : rule.Reply → Reply
 told w =

@@ -1,6 +1,7 @@
 // The pool for C and Rust: its four calls under C's conventions, with the promises of those that they call, and for the outcome its numbers
 // (docs/RULES.md 4.1).
-ghost use Rattle.finder.specs.Promises.{TellsOpen, TellsMalloc, TellsFree, TellsClose};
+ghost use mathlib.Core.Path.{_≡_};
+ghost use Rattle.finder.specs.Promises.{version, TellsOpen, TellsMalloc, TellsFree, TellsClose};
 use calls::Pool;
 use words::Address;
 
@@ -13,6 +14,16 @@ pub struct Reply {
     pub second: u64,
     pub records: usize,
     pub taken: usize,
+}
+
+// The version of the layout and of the answers. finder/pool.h has the same number.
+const VERSION: u64 = 1;
+
+#[no_mangle]
+pub extern "C" fn pool_version() -> u64
+    ensures { λ r. ⌜ r ≡ version ⌝ }
+{
+    VERSION
 }
 
 // Each function puts its reply together itself: one that did it for all would be handed the pool, a copy more.

@@ -52,8 +52,18 @@ fn put_verdict(out: &mut [u8], at: usize, v: Verdict) -> usize
     }
 }
 
+// A trace's name, before its verdict, where it has one.
+fn say_name(name: &[u8]) {
+    if name.len() == 0 {
+        return;
+    }
+    io::write_all(STDOUT_FILENO, name);
+    io::write_all(STDOUT_FILENO, b"\t");
+}
+
 // The end of the input.
 fn end(
+    name: &[u8],
     p: Progress,
     reservations: &mut [u64],
     held: &mut [u64],
@@ -63,6 +73,7 @@ fn end(
     requires { ⌜ TakesMore 2 p (lent (now reservations) (now held) (now mapped) (now live)) ⌝ }
 {
     let v = finish(p, reservations, held, mapped, live);
+    say_name(name);
     let mut out = io::buffer();
     let n = put_verdict(&mut out, 0, v);
     if !io::write_all(STDOUT_FILENO, &out[..n]) {
@@ -100,8 +111,8 @@ fn serve(
     }
 }
 
-// From an open file to standard output.
-pub fn pump(fd: i32) {
+// From an open file to standard output, the verdict with the name before it, where that is not empty.
+pub fn pump(fd: i32, name: &[u8]) {
     let mut reservations: [u64; State::RESERVATION_NUMBERS] = [0; State::RESERVATION_NUMBERS];
     let mut held: [u64; State::HELD_NUMBERS] = [0; State::HELD_NUMBERS];
     let mut mapped: [u64; State::MAPPED_NUMBERS] = [0; State::MAPPED_NUMBERS];
@@ -118,6 +129,7 @@ pub fn pump(fd: i32) {
         let n = r.count;
         if n == 0 {
             end(
+                name,
                 progress,
                 &mut reservations,
                 &mut held,

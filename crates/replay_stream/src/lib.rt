@@ -24,15 +24,20 @@ struct State {
     live: bool,
 }
 
+// To standard error, by the name that the program was called by.
+fn complain(what: &[u8]) {
+    let mut name = io::buffer();
+    let n = os::arg(0, &mut name);
+    io::write_all(STDERR_FILENO, &name[..n]);
+    io::write_all(STDERR_FILENO, what);
+}
+
 // To standard output; whether it could be written.
 fn written(bytes: &[u8]) -> bool {
     if io::write_all(STDOUT_FILENO, bytes) {
         return true;
     }
-    io::write_all(
-        STDERR_FILENO,
-        b"replay: standard output cannot be written\n",
-    );
+    complain(b": standard output cannot be written\n");
     false
 }
 
@@ -46,7 +51,7 @@ fn show(pool: Pool, out: &mut [u8]) -> bool
 }
 
 fn not_read() {
-    io::write_all(STDERR_FILENO, b"replay: standard input cannot be read\n");
+    complain(b": the trace cannot be read\n");
 }
 
 // The end of a run.

@@ -1,8 +1,8 @@
 //! A pool on a made-up card, from its opening to its close. Prints the trace, which judge accepts:
 //!
-//!     cargo run --offline --quiet --example tour | ../../target/bin/judge
+//!     cargo run --offline --quiet --example tour | ../../target/run/judge
 
-use caldarimpu::{Card, Config, Pool, Refusal};
+use caldarimpu::{Card, Config, Driver, Orphan, Pool, Refusal, Word};
 
 const PAGE: u64 = 2 << 20;
 
@@ -11,7 +11,8 @@ fn main() -> Result<(), Refusal> {
     let toured = tour(&mut card);
     // Of a tour that ends early too.
     print!("{}", card.trace());
-    toured
+    toured?;
+    stop(&mut Card::new())
 }
 
 fn tour(card: &mut Card) -> Result<(), Refusal> {
@@ -44,5 +45,20 @@ fn tour(card: &mut Card) -> Result<(), Refusal> {
     pool.free(card, other.address)?;
     let failures = pool.close(card)?;
     assert_eq!(failures, 0);
+    Ok(())
+}
+
+/// A driver call that fails ends the pool: it is closed, and what it could not know of is released.
+fn stop(card: &mut Card) -> Result<(), Refusal> {
+    let mut pool = Pool::open(card, Config::new(PAGE, 10 * PAGE))?;
+    card.fail(Word::Map, 1, 700);
+    let refusal = pool.malloc(card, 3 * PAGE, 1).expect_err("no second map");
+    eprintln!("refused: {refusal}");
+    assert!(refusal.stops());
+    pool.close(card)?;
+    match refusal.orphan() {
+        Some(Orphan::Page { handle }) => card.release(handle).expect("a release"),
+        other => panic!("a map leaves a page, not {other:?}"),
+    }
     Ok(())
 }

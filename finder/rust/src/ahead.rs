@@ -13,8 +13,8 @@
 
 use crate::{
     driver::{make, Answer},
-    ffi::{Page, Reply, LOG},
-    Driver, Record, Word,
+    ffi::{self, Page, Reply, LOG},
+    Call, Driver, Record, Word,
 };
 
 /// Guessed handles start here: no base ends at or below 2^63 behind it, so a run ends where it
@@ -44,26 +44,21 @@ impl Ahead {
         }
     }
 
-    /// Runs a call until every answer that it took is the driver's. `active` are the pool's pages
-    /// before it.
-    pub fn settle(
-        &mut self,
-        driver: &mut dyn Driver,
-        active: &[Page],
-        run: impl Fn(&[u64], &mut [u64]) -> Reply,
-    ) -> Reply {
+    /// Runs a call until every answer that it took is the driver's.
+    pub fn settle(&mut self, driver: &mut dyn Driver, pool: &ffi::Pool, call: Call) -> Reply {
         self.forget();
         loop {
-            let reply = run(&self.answers, &mut self.log);
+            let reply = run(pool, call, &self.answers, &mut self.log);
             self.runs += 1;
             self.check(reply.records);
-            if self.drive(driver, active, reply.records) {
+            let mut making = |wanted: Record| make(driver, call, wanted);
+            if self.drive(&mut making, pool.pages.entries(), reply.records) {
                 return reply;
             }
         }
     }
 
-    /// The driver calls of the last call.
+    /// The driver calls of the last call, up to where the driver panicked if it did.
     pub fn made(&self) -> &[Record] {
         &self.made
     }
@@ -92,38 +87,39 @@ impl Ahead {
     }
 
     /// Makes the log's driver calls that were not made yet, up to the first that is answered
-    /// otherwise than guessed. Says whether all were as guessed.
-    fn drive(&mut self, driver: &mut dyn Driver, active: &[Page], records: usize) -> bool {
+    /// otherwise than guessed. Says whether all were as guessed. `active` are the pool's pages
+    /// before the call.
+    fn drive(
+        &mut self,
+        make: &mut dyn FnMut(Record) -> Answer,
+        active: &[Page],
+        records: usize,
+    ) -> bool {
         let mut names = Names::default();
         for at in self.made.len()..records {
             let guessed = names.with_real(self.record(at));
-            let answer = make(driver, guessed);
+            let answer = make(guessed);
             let record = guessed.answered(answer);
-            let renamed = self.is_renamed(guessed, record, active);
+            let goes_on = match (record.word, record.code) {
+                (Word::Create, SUCCESS) => !self.is_in_use(record, active),
+                _ => record == guessed,
+            };
             self.lend(at, answer);
             self.made.push(record);
-            if renamed {
-                names.add(guessed.first, record.first);
-            } else if record != guessed {
+            if !goes_on {
                 return false;
+            }
+            if record != guessed {
+                names.add(guessed.first, record.first);
             }
         }
         names.is_empty()
     }
 
-    /// Whether a page was created as guessed but for its handle. One that is in use already is
-    /// another matter: the pool won't believe it.
-    fn is_renamed(&self, guessed: Record, record: Record, active: &[Page]) -> bool {
-        let handle = record.first;
-        let created = Record {
-            first: handle,
-            ..guessed
-        };
-        record.word == Word::Create
-            && record.code == SUCCESS
-            && handle != guessed.first
-            && !active.iter().any(|page| page.handle == handle)
-            && !self.made.contains(&created)
+    /// Whether a page has been created under a handle that another has: the pool won't believe it.
+    /// Even the guessed handle can be one: the run may know the page that has it by another name.
+    fn is_in_use(&self, created: Record, active: &[Page]) -> bool {
+        active.iter().any(|page| page.handle == created.first) || self.made.contains(&created)
     }
 
     fn lend(&mut self, at: usize, answer: Answer) {
@@ -134,6 +130,24 @@ impl Ahead {
     fn record(&self, at: usize) -> Record {
         let numbers = [0, 1, 2, 3].map(|cell| self.log[4 * at + cell]);
         Record::of_numbers(numbers).expect("libfinder.a writes the rules' words")
+    }
+}
+
+/// Runs a call once, on the answers lent.
+fn run(pool: &ffi::Pool, call: Call, answers: &[u64], log: &mut [u64]) -> Reply {
+    match call {
+        Call::Open(config) => ffi::open(
+            config.granularity,
+            config.override_size,
+            config.va_size,
+            config.initial_pages,
+            config.initial_stream,
+            answers,
+            log,
+        ),
+        Call::Malloc { bytes, stream } => ffi::malloc(pool, bytes, stream, answers, log),
+        Call::Free { address } => ffi::free(pool, address, answers, log),
+        Call::Close => ffi::close(pool, answers, log),
     }
 }
 

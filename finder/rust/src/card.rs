@@ -15,6 +15,7 @@ pub struct Card {
     failures: BTreeMap<Word, Failure>,
     values: BTreeMap<Word, u64>,
     seen: Vec<Record>,
+    passed_over: Vec<Record>,
     trace: String,
 }
 
@@ -50,6 +51,11 @@ impl Card {
     /// The driver calls so far, with their answers.
     pub fn seen(&self) -> &[Record] {
         &self.seen
+    }
+
+    /// The failures so far of which the pool said that they ended no call. It writes no line.
+    pub fn failures(&self) -> &[Record] {
+        &self.passed_over
     }
 
     /// The pool's trace so far.
@@ -96,5 +102,9 @@ impl Answers for Card {
 
     fn told(&mut self, call: &Happened) {
         self.trace += &call.to_string();
+    }
+
+    fn warned(&mut self, failed: Record) {
+        self.passed_over.push(failed);
     }
 }

@@ -1,8 +1,11 @@
 //! The card's driver, as the pool sees it: the words of docs/RULES.md 2.1, a method for each.
 
-use std::num::NonZeroU64;
+use std::{
+    io::{self, Write},
+    num::NonZeroU64,
+};
 
-use crate::Happened;
+use crate::{Call, Happened};
 
 /// A driver's failure. 0 is success and so is no failure.
 pub type Code = NonZeroU64;
@@ -12,8 +15,8 @@ pub type Code = NonZeroU64;
 /// Addresses, handles, event ids and streams are numbers; what they stand for is the driver's to
 /// know. A map is of one page, the size that create was told.
 ///
-/// A method must not panic: the pool would stay as it was before the call, while the card has seen
-/// a part of it.
+/// A method that panics in the middle of a call poisons the pool: only a close is served then. See
+/// [`Pool::interrupted`](crate::Pool::interrupted).
 pub trait Driver {
     /// Reserves a range of addresses and gives its base.
     fn reserve(&mut self, va_size: u64) -> Result<u64, Code>;
@@ -34,25 +37,46 @@ pub trait Driver {
     fn asked(&mut self, id: u64) -> Result<bool, Code>;
     /// Lets a stream wait for an event.
     fn wait(&mut self, id: u64, stream: u64) -> Result<(), Code>;
-    /// Waits for all work of a stream. A close syncs stream 0 and means the whole card.
+    /// Waits for all work of a stream: the one that an opening made its initial pages on.
     fn sync(&mut self, stream: u64) -> Result<(), Code>;
+    /// Waits for all work of the card, before a close takes anything away. Its record is that of a
+    /// sync of stream 0.
+    fn sync_card(&mut self) -> Result<(), Code>;
     /// Gives a reserved range back.
     fn giveback(&mut self, base: u64, va_size: u64) -> Result<(), Code>;
 
     /// Is told each call of the pool when it has ended: to print a trace, for instance. No driver
     /// call.
     fn happened(&mut self, _call: &Happened) {}
+
+    /// Is told each of [`Happened::failures`], driver calls that failed and ended no call, before
+    /// `happened` is told of the call. No driver call. Left as it is, it writes a line to standard
+    /// error.
+    fn passed_over(&mut self, failed: Record) {
+        warn(failed);
+    }
+}
+
+fn warn(failed: Record) {
+    let line = format!("caldarimpu: passed over: {}\n", failed.in_words());
+    // A standard error that takes nothing is no reason to end a call that went on.
+    let _ = io::stderr().write_all(line.as_bytes());
 }
 
 /// A driver in one function, for those that note and answer every call alike, as made-up ones do.
 /// Whatever has it is a [`Driver`].
 pub trait Answers {
     /// Answers a driver call: a base, a handle, or 1 for an event that is complete; of any other
-    /// word the number is not looked at.
+    /// word the number is not looked at. A sync of the card comes as one of stream 0.
     fn answer(&mut self, wanted: Record) -> Result<u64, Code>;
 
     /// As [`Driver::happened`].
     fn told(&mut self, _call: &Happened) {}
+
+    /// As [`Driver::passed_over`].
+    fn warned(&mut self, failed: Record) {
+        warn(failed);
+    }
 }
 
 impl<T: Answers> Driver for T {
@@ -103,6 +127,10 @@ impl<T: Answers> Driver for T {
         self.answer(Record::wanted(Word::Sync, stream, 0)).map(drop)
     }
 
+    fn sync_card(&mut self) -> Result<(), Code> {
+        self.answer(Record::wanted(Word::Sync, 0, 0)).map(drop)
+    }
+
     fn giveback(&mut self, base: u64, va_size: u64) -> Result<(), Code> {
         self.answer(Record::wanted(Word::Giveback, base, va_size))
             .map(drop)
@@ -110,6 +138,10 @@ impl<T: Answers> Driver for T {
 
     fn happened(&mut self, call: &Happened) {
         self.told(call);
+    }
+
+    fn passed_over(&mut self, failed: Record) {
+        self.warned(failed);
     }
 }
 
@@ -205,6 +237,21 @@ impl Record {
         }
     }
 
+    /// For a message: `map 96 3`, and its code if it failed.
+    pub(crate) fn in_words(&self) -> String {
+        let Self {
+            word,
+            first,
+            second,
+            code,
+        } = *self;
+        let call = format!("{} {first} {second}", word.name());
+        match code {
+            0 => call,
+            code => format!("{call}, code {code}"),
+        }
+    }
+
     /// The record that this driver call leaves when it is answered so.
     pub(crate) fn answered(self, answer: Answer) -> Self {
         let Answer { code, value } = answer;
@@ -242,8 +289,9 @@ impl Answer {
     }
 }
 
-/// Makes the driver call of a record. What only an answer tells is not looked at.
-pub(crate) fn make(driver: &mut dyn Driver, wanted: Record) -> Answer {
+/// Makes the driver call of a record in a call of the pool. What only an answer tells is not looked
+/// at.
+pub(crate) fn make(driver: &mut dyn Driver, call: Call, wanted: Record) -> Answer {
     let Record { first, second, .. } = wanted;
     let nothing = |()| 0;
     Answer::of(match wanted.word {
@@ -256,6 +304,7 @@ pub(crate) fn make(driver: &mut dyn Driver, wanted: Record) -> Answer {
         Word::Record => driver.record(first, second).map(nothing),
         Word::Asked => driver.asked(first).map(u64::from),
         Word::Wait => driver.wait(first, second).map(nothing),
+        Word::Sync if call == Call::Close => driver.sync_card().map(nothing),
         Word::Sync => driver.sync(first).map(nothing),
         Word::Giveback => driver.giveback(first, second).map(nothing),
     })

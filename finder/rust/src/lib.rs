@@ -16,7 +16,8 @@
 //! ```
 //!
 //! [`Driver::happened`] is told each call with its driver calls and its result; it displays as a
-//! trace, which the programs replay and judge read.
+//! trace, which the programs replay and judge read. [`Driver::passed_over`] is told the driver
+//! calls that failed and ended no call.
 
 #![deny(unsafe_code, missing_docs)]
 
@@ -34,6 +35,6 @@ mod trace;
 
 pub use card::Card;
 pub use driver::{Answers, Code, Driver, Record, Word};
-pub use pool::{Buffer, Freed, Pool};
-pub use refusal::Refusal;
+pub use pool::{Buffer, Freed, Interrupted, Pool};
+pub use refusal::{Orphan, Refusal};
 pub use trace::{Call, Config, Happened};

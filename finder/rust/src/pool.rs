@@ -4,16 +4,29 @@ use std::fmt;
 
 use crate::{
     ahead::Ahead,
-    ffi::{self, state, Reply},
-    Call, Config, Driver, Happened, Refusal,
+    ffi::{self, state},
+    Call, Config, Driver, Happened, Record, Refusal,
 };
 
-/// An open or stopped pool. It owns no driver, so dropping it gives nothing back: close it.
+/// A pool that is open, stopped or poisoned. It owns no driver, so dropping it gives nothing back:
+/// close it.
 #[must_use = "a pool that is dropped gives nothing back: close it"]
 pub struct Pool {
     /// Some 22 KB.
     value: Box<ffi::Pool>,
     ahead: Ahead,
+    /// The call that was begun and has not ended.
+    begun: Option<Call>,
+}
+
+/// A call that the driver's panic has left halfway.
+#[derive(Clone, Copy, Debug, PartialEq, Eq)]
+pub struct Interrupted<'a> {
+    /// The call.
+    pub call: Call,
+    /// Its driver calls that were answered, in order. Whether the card has made the one that
+    /// panicked only the driver can tell.
+    pub records: &'a [Record],
 }
 
 /// What malloc hands out.
@@ -36,11 +49,12 @@ pub struct Freed {
 
 impl Pool {
     /// Reserves a first range and makes the initial pages. If that fails, what was taken is given
-    /// back at once.
+    /// back at once. If the driver panics, there is no pool, and nothing is given back.
     pub fn open(driver: &mut dyn Driver, config: Config) -> Result<Self, Refusal> {
         let mut pool = Self {
             value: Box::new(ffi::Pool::closed()),
             ahead: Ahead::new(),
+            begun: None,
         };
         match pool.call(driver, Call::Open(config)) {
             Ok(_) => Ok(pool),
@@ -69,7 +83,8 @@ impl Pool {
         Ok(Freed { size, stream })
     }
 
-    /// Gives everything back, live buffers too, and tells how many of the driver calls failed.
+    /// Gives everything back, live buffers too, and tells how many of the driver calls failed. Of a
+    /// poisoned pool that is what it held before the call that was interrupted.
     pub fn close(mut self, driver: &mut dyn Driver) -> Result<u64, Refusal> {
         let (failures, _) = self.call(driver, Call::Close)?;
         Ok(failures)
@@ -86,6 +101,18 @@ impl Pool {
         self.value.state == state::STOPPED
     }
 
+    /// The call in which the driver panicked. The pool is poisoned then: malloc and free are
+    /// refused, and only close is served.
+    ///
+    /// The pool is as it was before that call, while the card has seen a part of it. What the
+    /// records reserved, created or mapped no close gives back. And driver calls of the close may
+    /// fail: an unmap of what the call had unmapped, a giveback of a range in which it had mapped.
+    pub fn interrupted(&self) -> Option<Interrupted<'_>> {
+        let call = self.begun?;
+        let records = self.ahead.made();
+        Some(Interrupted { call, records })
+    }
+
     /// The pool value, for a look at its tables.
     pub fn value(&self) -> &ffi::Pool {
         &self.value
@@ -93,26 +120,27 @@ impl Pool {
 
     /// Runs a call to its end and gives its two values.
     fn call(&mut self, driver: &mut dyn Driver, call: Call) -> Result<(u64, u64), Refusal> {
-        let value = &*self.value;
-        let run = |answers: &[u64], log: &mut [u64]| run(value, call, answers, log);
-        let reply = self.ahead.settle(driver, value.pages.entries(), run);
-        let Reply {
-            answer,
-            first,
-            second,
-            ..
-        } = reply;
+        if self.begun.is_some() && call != Call::Close {
+            return Err(Refusal::Poisoned);
+        }
+        self.begun = Some(call);
+        let reply = self.ahead.settle(driver, &self.value, call);
         *self.value = reply.pool;
-        driver.happened(&Happened {
+        self.begun = None;
+        let happened = Happened {
             call,
             records: self.ahead.made(),
-            answer,
-            first,
-            second,
+            answer: reply.answer,
+            first: reply.first,
+            second: reply.second,
             runs: self.ahead.runs(),
-        });
-        match Refusal::of_numbers(answer, first, second) {
-            None => Ok((first, second)),
+        };
+        for failed in happened.failures() {
+            driver.passed_over(*failed);
+        }
+        driver.happened(&happened);
+        match Refusal::of(&happened) {
+            None => Ok((reply.first, reply.second)),
             Some(refusal) => Err(refusal),
         }
     }
@@ -141,24 +169,7 @@ impl fmt::Debug for Pool {
             .field("zombies", &value.zombies.count)
             .field("pages", &value.pages.count)
             .field("roots", &value.roots.count)
+            .field("begun", &self.begun)
             .finish_non_exhaustive()
-    }
-}
-
-/// Runs a call once, on the answers lent.
-pub(crate) fn run(value: &ffi::Pool, call: Call, answers: &[u64], log: &mut [u64]) -> Reply {
-    match call {
-        Call::Open(config) => ffi::open(
-            config.granularity,
-            config.override_size,
-            config.va_size,
-            config.initial_pages,
-            config.initial_stream,
-            answers,
-            log,
-        ),
-        Call::Malloc { bytes, stream } => ffi::malloc(value, bytes, stream, answers, log),
-        Call::Free { address } => ffi::free(value, address, answers, log),
-        Call::Close => ffi::close(value, answers, log),
     }
 }

@@ -2,6 +2,8 @@
 
 use std::{error::Error, fmt};
 
+use crate::{Call, Happened, Record, Word};
+
 /// Why a call was not served. 17, answers ran out, is not among them: the driver is always asked.
 #[derive(Clone, Copy, Debug, PartialEq, Eq)]
 pub enum Refusal {
@@ -52,11 +54,18 @@ pub enum Refusal {
     },
     /// 14: another driver call failed. The pool is stopped.
     DriverFailed {
-        /// The driver's code.
-        code: u64,
+        /// That driver call, with the driver's code.
+        record: Record,
+        /// Whether it was an opening's: then there is no pool.
+        opening: bool,
     },
     /// 15: a base or a handle that the driver can't have given. The pool is stopped.
-    Incredible,
+    Incredible {
+        /// The reserve or create that was answered so.
+        record: Record,
+        /// Whether it was an opening's: then there is no pool.
+        opening: bool,
+    },
     /// 16: no live buffer starts there.
     InvalidPointer {
         /// The address.
@@ -64,14 +73,36 @@ pub enum Refusal {
     },
     /// 19: a configuration that open does not take.
     BadConfiguration,
+    /// The package's own, of no number: the driver panicked in a call before, see
+    /// [`Pool::interrupted`](crate::Pool::interrupted). No driver call is made, and
+    /// [`Driver::happened`](crate::Driver::happened) is not told.
+    Poisoned,
+}
+
+/// What a call that was answered 14 or 15 has left in no table, so that no close gives it back.
+#[derive(Clone, Copy, Debug, PartialEq, Eq)]
+pub enum Orphan {
+    /// A page whose map failed: to be released, after the close.
+    Page {
+        /// Its handle.
+        handle: u64,
+    },
+    /// A reservation that was not believed: to be given back, after the close.
+    Range {
+        /// Its base.
+        base: u64,
+        /// Its bytes.
+        va_size: u64,
+    },
 }
 
 use Refusal::*;
 
 impl Refusal {
-    /// The refusal of an answer's three numbers; none for 0, which is success.
-    pub(crate) fn of_numbers(answer: u64, first: u64, second: u64) -> Option<Self> {
-        Some(match answer {
+    /// Why a call that has ended was not served; none for 0, which is success.
+    pub(crate) fn of(happened: &Happened) -> Option<Self> {
+        let &Happened { first, second, .. } = happened;
+        Some(match happened.answer {
             0 => return None,
             1 => PoolClosed,
             2 => PoolStopped,
@@ -95,8 +126,7 @@ impl Refusal {
                 missing: first,
                 created: second,
             },
-            14 => DriverFailed { code: first },
-            15 => Incredible,
+            14 | 15 => Self::of_stop(happened),
             16 => InvalidPointer { address: first },
             19 => BadConfiguration,
             other => {
@@ -105,9 +135,20 @@ impl Refusal {
         })
     }
 
-    /// The answer's number.
-    pub fn number(self) -> u64 {
-        match self {
+    /// That of 14 or 15, which the last driver call of a call gives.
+    fn of_stop(happened: &Happened) -> Self {
+        let last = happened.records.last();
+        let record = *last.expect("libfinder.a stops no pool without a driver call");
+        let opening = matches!(happened.call, Call::Open(_));
+        match happened.answer {
+            14 => DriverFailed { record, opening },
+            _ => Incredible { record, opening },
+        }
+    }
+
+    /// The answer's number; the package's own refusal has none.
+    pub fn number(self) -> Option<u64> {
+        Some(match self {
             PoolClosed => 1,
             PoolStopped => 2,
             NotWellFormed => 3,
@@ -122,15 +163,47 @@ impl Refusal {
             ReserveFailed { .. } => 12,
             OutOfMemory { .. } => 13,
             DriverFailed { .. } => 14,
-            Incredible => 15,
+            Incredible { .. } => 15,
             InvalidPointer { .. } => 16,
             BadConfiguration => 19,
+            Poisoned => return None,
+        })
+    }
+
+    /// Whether the pool is stopped since: then only close is served. An opening leaves none.
+    pub fn stops(self) -> bool {
+        match self {
+            DriverFailed { opening, .. } | Incredible { opening, .. } => !opening,
+            _ => false,
         }
     }
 
-    /// Whether the pool is stopped since: then only close is served.
-    pub fn stops(self) -> bool {
-        matches!(self, DriverFailed { .. } | Incredible)
+    /// What the call has left that no close gives back.
+    pub fn orphan(self) -> Option<Orphan> {
+        match self {
+            DriverFailed { record, .. } if record.word == Word::Map => Some(Orphan::Page {
+                handle: record.second,
+            }),
+            Incredible { record, .. } if record.word == Word::Reserve => Some(Orphan::Range {
+                base: record.first,
+                va_size: record.second,
+            }),
+            _ => None,
+        }
+    }
+
+    /// What to do after 14 and 15.
+    fn after_a_stop(self) -> String {
+        let (pool, joint) = if self.stops() {
+            ("close the pool", ", then")
+        } else {
+            ("no pool was opened", ";")
+        };
+        match self.orphan() {
+            None => pool.to_string(),
+            Some(Orphan::Page { handle }) => format!("{pool}{joint} release handle {handle}"),
+            Some(Orphan::Range { base, .. }) => format!("{pool}{joint} give base {base} back"),
+        }
     }
 }
 
@@ -172,20 +245,27 @@ impl fmt::Display for Refusal {
             OutOfMemory { missing, created } => write!(
                 out,
                 "the card has no memory: {missing} bytes were missing, {created} could be created: \
-                 free buffers"
+                 free some, or ask for less"
             ),
-            DriverFailed { code } => {
-                write!(out, "a driver call failed with code {code}: close the pool")
+            DriverFailed { record, .. } => {
+                let (failed, after) = (record.in_words(), self.after_a_stop());
+                write!(out, "a driver call failed ({failed}): {after}")
             }
-            Incredible => out.write_str(
-                "the driver gave a base or a handle that can't be: close the pool, mend the driver",
-            ),
+            Incredible { record, .. } => {
+                let (given, after) = (record.in_words(), self.after_a_stop());
+                write!(
+                    out,
+                    "the driver gave a base or a handle that can't be ({given}): {after}; mend the \
+                     driver"
+                )
+            }
             InvalidPointer { address } => write!(out, "no live buffer starts at {address}"),
             BadConfiguration => out.write_str(
                 "wanted: a granularity above 0 that divides the override; a va_size above 0, at \
                  most 2^46, that is a multiple of the page size; at most 256 initial pages, which \
                  fit in it",
             ),
+            Poisoned => out.write_str("the driver panicked in an earlier call: close the pool"),
         }
     }
 }
@@ -196,12 +276,25 @@ impl Error for Refusal {}
 mod tests {
     use super::*;
 
+    /// A free that was answered so, by its one driver call.
+    fn refusal(answer: u64) -> Option<Refusal> {
+        let record = Record::of_numbers([7, 3, 1, 700]).expect("a record");
+        Refusal::of(&Happened {
+            call: Call::Free { address: 80 },
+            records: &[record],
+            answer,
+            first: 5,
+            second: 6,
+            runs: 1,
+        })
+    }
+
     #[test]
     fn numbers_come_back() {
-        assert_eq!(Refusal::of_numbers(0, 1, 2), None);
+        assert_eq!(refusal(0), None);
         for answer in (1..=16).chain([19]) {
-            let refusal = Refusal::of_numbers(answer, 5, 6).expect("a refusal");
-            assert_eq!(refusal.number(), answer);
+            let refusal = refusal(answer).expect("a refusal");
+            assert_eq!(refusal.number(), Some(answer));
             assert_eq!(refusal.stops(), answer == 14 || answer == 15);
             assert!(!refusal.to_string().is_empty());
         }
@@ -210,6 +303,6 @@ mod tests {
     #[test]
     #[should_panic(expected = "answers 17")]
     fn answers_never_run_out() {
-        Refusal::of_numbers(17, 0, 0);
+        refusal(17);
     }
 }

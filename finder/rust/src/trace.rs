@@ -2,7 +2,7 @@
 
 use std::fmt;
 
-use crate::Record;
+use crate::{Record, Word};
 
 /// How a pool is opened.
 #[derive(Clone, Copy, Debug, PartialEq, Eq)]
@@ -65,6 +65,20 @@ pub struct Happened<'a> {
     pub second: u64,
     /// How often the library was run for it: more than once where an answer could not be guessed.
     pub runs: u64,
+}
+
+impl<'a> Happened<'a> {
+    /// The driver calls that failed and ended no call: those that take something away, which is
+    /// then still there; an asked, whose event counts as not complete; and any of a close.
+    pub fn failures(&self) -> impl Iterator<Item = &'a Record> {
+        let call = self.call;
+        let is_passed_over = move |word| match word {
+            Word::Unmap | Word::Release | Word::Asked => true,
+            _ => call == Call::Close,
+        };
+        let failed = self.records.iter().filter(|record| record.code != 0);
+        failed.filter(move |record| is_passed_over(record.word))
+    }
 }
 
 impl fmt::Display for Happened<'_> {

@@ -1,15 +1,13 @@
 //! Each driver word failing once, wherever a call makes it: what the call answers, whether the pool
 //! goes on, and that the driver saw the calls of the trace and no others.
 
-use caldarimpu::{Card, Config, Pool, Refusal, Word};
+use caldarimpu::{Card, Config, Pool, Record, Refusal, Word};
 
 const PAGE: u64 = 4;
 const VA: u64 = 40;
 const BASE: u64 = 2 * VA;
 const CODE: u64 = 700;
 const OUT_OF_MEMORY: u64 = 2;
-
-const FAILED: Refusal = Refusal::DriverFailed { code: CODE };
 
 /// A pool on its card.
 struct Desk {
@@ -82,11 +80,32 @@ impl Desk {
     }
 }
 
+/// Of 14 in a malloc or free: the last driver call is the one that failed.
 #[track_caller]
-fn assert_seen(card: &Card, word: Word, code: u64) {
-    let met = |record: &caldarimpu::Record| record.word == word && record.code == code;
-    let times = card.seen().iter().filter(|record| met(record)).count();
-    assert_eq!(times, 1, "{} with code {code}", word.name());
+fn failed(card: &Card) -> Refusal {
+    let record = *card.seen().last().expect("a driver call");
+    assert_eq!(record.code, CODE);
+    let opening = false;
+    Refusal::DriverFailed { record, opening }
+}
+
+/// Of 15 in a malloc.
+#[track_caller]
+fn incredible(card: &Card, word: Word, given: u64) -> Refusal {
+    let record = *card.seen().last().expect("a driver call");
+    assert_eq!((record.word, record.first, record.code), (word, given, 0));
+    let opening = false;
+    Refusal::Incredible { record, opening }
+}
+
+#[track_caller]
+fn assert_seen(card: &Card, word: Word, code: u64) -> Record {
+    let met = |record: &&Record| record.word == word && record.code == code;
+    let records: Vec<&Record> = card.seen().iter().filter(met).collect();
+    let [record] = records[..] else {
+        panic!("not one {} with code {code}: {records:?}", word.name());
+    };
+    *record
 }
 
 /// The driver's own notes are the trace's driver lines, each once and in order.
@@ -152,7 +171,7 @@ fn a_create_without_memory() {
 fn another_create() {
     let mut desk = Desk::open();
     desk.card.fail(Word::Create, 1, CODE);
-    assert_eq!(desk.malloc(12, 1), Err(FAILED));
+    assert_eq!(desk.malloc(12, 1), Err(failed(&desk.card)));
     desk.stops(Word::Create, CODE);
 }
 
@@ -161,7 +180,7 @@ fn a_map_and_an_access() {
     for word in [Word::Map, Word::Access] {
         let mut desk = Desk::open();
         desk.card.fail(word, 0, CODE);
-        assert_eq!(desk.malloc(12, 1), Err(FAILED));
+        assert_eq!(desk.malloc(12, 1), Err(failed(&desk.card)));
         desk.stops(word, CODE);
     }
 }
@@ -171,7 +190,7 @@ fn a_map_and_an_access_of_moved_pages() {
     for (word, after) in [(Word::Map, 2), (Word::Access, 0)] {
         let mut desk = Desk::fragmented();
         desk.card.fail(word, after, CODE);
-        assert_eq!(desk.malloc(12, 1), Err(FAILED));
+        assert_eq!(desk.malloc(12, 1), Err(failed(&desk.card)));
         desk.stops(word, CODE);
     }
 }
@@ -183,7 +202,7 @@ fn an_unmap_and_a_release_of_a_rollback() {
         desk.card.fail(Word::Create, 2, OUT_OF_MEMORY);
         desk.card.fail(word, 1, CODE);
         let refusal = desk.malloc(12, 1).expect_err("no memory");
-        assert_eq!(refusal.number(), 13);
+        assert_eq!(refusal.number(), Some(13));
         desk.goes_on(word, CODE);
     }
 }
@@ -212,13 +231,13 @@ fn an_asked_is_not_complete() {
 fn a_record() {
     let mut desk = Desk::open();
     desk.card.fail(Word::Record, 0, CODE);
-    assert_eq!(desk.malloc(4, 1), Err(FAILED));
+    assert_eq!(desk.malloc(4, 1), Err(failed(&desk.card)));
     desk.stops(Word::Record, CODE);
 
     let mut desk = Desk::open();
     let address = desk.malloc(4, 1).expect("room");
     desk.card.fail(Word::Record, 0, CODE);
-    assert_eq!(desk.free(address), Err(FAILED));
+    assert_eq!(desk.free(address), Err(failed(&desk.card)));
     desk.stops(Word::Record, CODE);
 }
 
@@ -226,7 +245,7 @@ fn a_record() {
 fn a_wait() {
     let mut desk = Desk::fragmented();
     desk.card.fail(Word::Wait, 1, CODE);
-    assert_eq!(desk.malloc(12, 2), Err(FAILED));
+    assert_eq!(desk.malloc(12, 2), Err(failed(&desk.card)));
     desk.stops(Word::Wait, CODE);
 }
 
@@ -247,11 +266,13 @@ fn the_initial_pages() {
     ] {
         let mut card = Card::new();
         card.fail(word, 0, CODE);
-        assert_eq!(Pool::open(&mut card, config).err(), Some(FAILED));
+        let refusal = Pool::open(&mut card, config).expect_err("a failure");
+        let record = assert_seen(&card, word, CODE);
+        let opening = true;
+        assert_eq!(refusal, Refusal::DriverFailed { record, opening });
         assert!(card
             .trace()
             .ends_with("giveback\t80\t40\t0\nresult\t0\t0\t0\n"));
-        assert_seen(&card, word, CODE);
         assert_traced(&card);
     }
 }
@@ -275,14 +296,19 @@ fn incredible_bases() {
         let mut card = Card::new();
         card.give(Word::Reserve, base);
         let opened = Pool::open(&mut card, Config::new(PAGE, VA));
-        assert_eq!(opened.err(), Some(Refusal::Incredible));
+        let opening = true;
+        let record = card.seen()[0];
+        assert_eq!((record.word, record.first), (Word::Reserve, base));
+        let refusal = Refusal::Incredible { record, opening };
+        assert_eq!(opened.err(), Some(refusal));
         assert_traced(&card);
     }
     for base in [BASE, BASE + 4, BASE - 4] {
         let mut desk = Desk::open();
         desk.malloc(8, 1).expect("room");
         desk.card.give(Word::Reserve, base);
-        assert_eq!(desk.malloc(36, 1), Err(Refusal::Incredible));
+        let refusal = desk.malloc(36, 1);
+        assert_eq!(refusal, Err(incredible(&desk.card, Word::Reserve, base)));
         desk.refuses();
     }
 }
@@ -293,12 +319,14 @@ fn incredible_handles() {
     let mut desk = Desk::open();
     desk.malloc(8, 1).expect("room");
     desk.card.give(Word::Create, 1);
-    assert_eq!(desk.malloc(12, 2), Err(Refusal::Incredible));
+    let refusal = desk.malloc(12, 2);
+    assert_eq!(refusal, Err(incredible(&desk.card, Word::Create, 1)));
     desk.refuses();
 
     let mut desk = Desk::open();
     desk.card.give(Word::Create, 2);
-    assert_eq!(desk.malloc(12, 2), Err(Refusal::Incredible));
+    let refusal = desk.malloc(12, 2);
+    assert_eq!(refusal, Err(incredible(&desk.card, Word::Create, 2)));
     desk.refuses();
 }
 

@@ -9,6 +9,9 @@ use Rattle.judge_stream.proofs.end.Tie as tie
 finish-requires : tie.Need-finish-requires
 finish-requires c κs = search needs
 
+say-name-requires : tie.Need-say-name-requires
+say-name-requires c κs = search needs
+
 buffer-requires : tie.Need-buffer-requires
 buffer-requires c κs = search needs
 
@@ -65,6 +68,7 @@ end-spec =
     tie.close
     (tie.spec
     finish-requires
+    say-name-requires
     buffer-requires
     slice-aggregate-put-verdict
     put-verdict-requires

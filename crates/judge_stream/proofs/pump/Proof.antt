@@ -17,12 +17,12 @@ abbrev most : ℕ
 most = 2 ^ 63 + mostRead
 
 abbrev Inv-loop : tie.InvT-loop
-Inv-loop fd reservations₀ held₀ mapped₀ live₀ p₀ total₀ reservations held mapped live p total =
+Inv-loop fd name reservations₀ held₀ mapped₀ live₀ p₀ total₀ reservations held mapped live p total =
     let t = lent reservations held mapped live in
     Begun p t × (WholeSlices t × ((p .lines ≤ total) × (total ≤ most)))
 
 abbrev μ-loop : tie.MeasureT-loop
-μ-loop fd reservations₀ held₀ mapped₀ live₀ p₀ total₀ reservations held mapped live p total = most - total
+μ-loop fd name reservations₀ held₀ mapped₀ live₀ p₀ total₀ reservations held mapped live p total = most - total
 
 start-requires : tie.Need-start-requires Inv-loop μ-loop
 start-requires c κs = search needs

@@ -3,11 +3,11 @@
 
 use std::collections::BTreeMap;
 
+use super::run;
 use crate::{
     driver::{make, Answer},
     ffi::{self, Reply, LOG},
-    pool::run,
-    Answers, Call, Code, Config, Happened, Pool, Record, Word,
+    Answers, Call, Code, Config, Happened, Pool, Record, Refusal, Word,
 };
 
 /// A driver of random mood, and not always a credible one.
@@ -19,6 +19,8 @@ struct Whim {
     complete: u64,
     seen: Vec<Record>,
     told: Vec<String>,
+    /// Failures that it was told ended no call.
+    passed_over: usize,
     runs: u64,
 }
 
@@ -30,6 +32,7 @@ impl Whim {
             complete,
             seen: Vec::new(),
             told: Vec::new(),
+            passed_over: 0,
             runs: 0,
         }
     }
@@ -76,6 +79,11 @@ impl Answers for Whim {
         self.told.push(call.to_string());
         self.runs += call.runs;
     }
+
+    fn warned(&mut self, failed: Record) {
+        assert_ne!(failed.code, 0);
+        self.passed_over += 1;
+    }
 }
 
 /// Runs a call the plain way and gives its reply and its driver calls.
@@ -91,8 +99,16 @@ fn plain(driver: &mut Whim, pool: &ffi::Pool, call: Call) -> (Reply, Vec<Record>
         if reply.answer != 17 {
             return (reply, records);
         }
-        let answer = make(driver, *records.last().expect("the wanted call"));
+        let answer = make(driver, call, *records.last().expect("the wanted call"));
         answers.extend([answer.code, answer.value]);
+    }
+}
+
+/// No driver panics here, so that every answer is the library's.
+fn number_of(ended: Result<(), Refusal>) -> u64 {
+    match ended {
+        Ok(()) => 0,
+        Err(refusal) => refusal.number().expect("the library's answer"),
     }
 }
 
@@ -119,29 +135,21 @@ impl Two {
     /// Runs a call both ways and compares; gives its number.
     fn run(&mut self, call: Call) -> u64 {
         let ahead = &mut self.ahead;
-        let number = match (call, &mut self.pool) {
-            (Call::Open(config), place) => match Pool::open(ahead, config) {
-                Ok(pool) => {
-                    *place = Some(pool);
-                    0
-                }
-                Err(refusal) => refusal.number(),
-            },
+        let ended = match (call, &mut self.pool) {
+            (Call::Open(config), place) => {
+                Pool::open(ahead, config).map(|pool| *place = Some(pool))
+            }
             (Call::Malloc { bytes, stream }, Some(pool)) => {
-                let refusal = pool.malloc(ahead, bytes, stream).err();
-                refusal.map_or(0, |refusal| refusal.number())
+                pool.malloc(ahead, bytes, stream).map(drop)
             }
-            (Call::Free { address }, Some(pool)) => {
-                let refusal = pool.free(ahead, address).err();
-                refusal.map_or(0, |refusal| refusal.number())
-            }
+            (Call::Free { address }, Some(pool)) => pool.free(ahead, address).map(drop),
             (Call::Close, place) => {
                 let pool = place.take().expect("the pool is open");
-                pool.close(ahead)
-                    .map_or_else(|refusal| refusal.number(), |_| 0)
+                pool.close(ahead).map(drop)
             }
             (call, None) => panic!("{call:?} before an opening"),
         };
+        let number = number_of(ended);
         let told = self.run_plainly(call);
         assert_eq!(told, number, "{call:?}");
         *self.answers.entry(number).or_default() += 1;
@@ -172,6 +180,10 @@ impl Two {
             runs: 1 + records.len() as u64,
         };
         self.plain.told(&happened);
+        // One failure may be what the call answers.
+        let failed = records.iter().filter(|record| record.code != 0).count();
+        let answered = usize::from([12, 13, 14].contains(&reply.answer));
+        self.plain.passed_over += failed - answered;
         reply.answer
     }
 
@@ -179,6 +191,7 @@ impl Two {
         let (ahead, plain) = (&mut self.ahead, &mut self.plain);
         assert_eq!(ahead.seen, plain.seen);
         assert_eq!(ahead.told, plain.told);
+        assert_eq!(ahead.passed_over, plain.passed_over);
         for whim in [ahead, plain] {
             whim.seen.clear();
             whim.told.clear();

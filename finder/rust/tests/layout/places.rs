@@ -3,7 +3,8 @@
 use std::mem::offset_of;
 
 use caldarimpu::ffi::{
-    FreeRegion, Hole, LiveBuffer, Page, Pool, Reply, Zombie, HOLES, PAGES, ROOTS, SPANS, ZOMBIES,
+    FreeRegion, Hole, LiveBuffer, Page, Pool, Reply, Table, Zombie, HOLES, PAGES, ROOTS, SPANS,
+    ZOMBIES,
 };
 
 /// One table's places among the pool's words.
@@ -18,13 +19,13 @@ pub struct Shape {
 }
 
 macro_rules! shape {
-    ($table:ident, $entry:ty, $cells:expr, [$($field:ident),*]) => {
+    ($table:ident, $entry:ty, $cells:ident, [$($field:ident),*]) => {
         Shape {
             name: stringify!($table),
-            start: offset_of!(Pool, $table.cells) / 8,
+            start: (offset_of!(Pool, $table) + offset_of!(Table<$entry, $cells>, cells)) / 8,
             stride: size_of::<$entry>() / 8,
             cells: $cells,
-            count: offset_of!(Pool, $table.count) / 8,
+            count: (offset_of!(Pool, $table) + offset_of!(Table<$entry, $cells>, count)) / 8,
             fields: &[$((stringify!($field), offset_of!($entry, $field) / 8)),*],
         }
     };

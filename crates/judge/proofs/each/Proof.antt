@@ -1,14 +1,14 @@
--- `replay_files::pump_files` meets its contract: each turn leaves one argument less.
+-- `judge::each` meets its contract: each turn leaves one argument less.
 use Prim.Native.Nat.{_-_}
 use borrow.Author.Needs.{needs}
-use Rattle.replay_files.proofs.pump_files.Statement.{statement}
-use Rattle.replay_files.proofs.pump_files.Tie as tie
+use Rattle.judge.proofs.each.Statement.{statement}
+use Rattle.judge.proofs.each.Tie as tie
 
 abbrev Inv-loop : tie.InvT-loop
-Inv-loop tables n i₀ i = Unit {0}
+Inv-loop n named i₀ i = Unit {0}
 
 abbrev μ-loop : tie.MeasureT-loop
-μ-loop tables n i₀ i = n - i
+μ-loop n named i₀ i = n - i
 
 arg-count-requires : tie.Need-arg-count-requires Inv-loop μ-loop
 arg-count-requires c κs = search needs
@@ -31,8 +31,8 @@ loop-again c = search needs
 returns : tie.Need-returns Inv-loop μ-loop
 returns c = search needs
 
-pub pump-files-spec : {M : Type 1} → statement M
-pump-files-spec =
+pub each-spec : {M : Type 1} → statement M
+each-spec =
     tie.close
     (tie.spec
     Inv-loop

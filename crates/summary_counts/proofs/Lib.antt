@@ -1,0 +1,9 @@
+pub mod Places
+pub mod OneMore
+pub mod Counting
+pub mod Amounts
+pub mod Handing
+pub mod LiveOnes
+pub mod Told
+pub mod Starting
+pub mod Peaks

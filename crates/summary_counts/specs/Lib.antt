@@ -1,0 +1,4 @@
+pub mod Counts
+pub mod HandOvers
+pub mod Promises
+pub mod Taking
