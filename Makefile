@@ -1,4 +1,4 @@
-.PHONY: run test compare bench finder
+.PHONY: run test faces compare bench finder
 
 run:
 	@bash scripts/runnable replay replay_tables judge summary
@@ -8,6 +8,9 @@ run:
 
 test:
 	@bash .ci/run
+
+faces:
+	@bash scripts/faces
 
 compare:
 	@bash scripts/runnable replay replay_tables
