@@ -1,94 +1,33 @@
-// Prints a summary of each trace that an argument names, or of standard input where there is none: what support looks at first.
-use libc::STDERR_FILENO;
+// Prints a summary of each trace that is named, or of standard input: what support looks at first.
 use libc::STDIN_FILENO;
 use libc::STDOUT_FILENO;
+use named_files::Wish;
 
 fn help() {
     io::write_all(
         STDOUT_FILENO,
-        b"summary [FILE..]: one screen on each trace, or on standard input: its answers, the driver lines\n",
+        b"usage: summary [FILE..]\n\nOne screen on a trace: its answers, the driver lines that failed, the peaks of live and of\nmapped bytes, and what is left at the end. The judge takes each line first: where it takes\none no more, the summary is of the lines before, and the last line says so. Without a file\nit reads standard input; several are read one after the other.\n",
     );
-    io::write_all(
-        STDOUT_FILENO,
-        b"that failed, the peaks of live and of mapped bytes, and what is left at the end. The judge takes\n",
-    );
-    io::write_all(
-        STDOUT_FILENO,
-        b"each line first: where it takes one no more, the summary is of the lines before, and the last\n",
-    );
-    io::write_all(STDOUT_FILENO, b"line says why.\n");
 }
 
-fn is_help(word: &[u8]) -> bool {
-    let help = b"--help";
-    if word.len() != 6 {
-        return false;
-    }
-    let mut i: usize = 0;
-    while i < 6 {
-        if word[i] != help[i] {
-            return false;
-        }
-        i += 1;
-    }
-    true
-}
-
-// A word that begins with '-' is no file.
-fn is_option(word: &[u8]) -> bool {
-    if word.len() == 0 {
-        return false;
-    }
-    word[0] == b'-'
-}
-
-fn refuse(word: &[u8]) {
-    io::write_all(STDERR_FILENO, b"summary: no such option: ");
-    io::write_all(STDERR_FILENO, word);
-    io::write_all(STDERR_FILENO, b"\n");
-}
-
-fn summarize(path: &[u8]) {
-    let fd = os::open_read(path);
+fn one(i: usize) {
+    let mut name = io::buffer();
+    let file = named_files::open_named(i, &mut name);
+    let fd = file.fd;
     if fd < 0 {
-        os::fail(path);
         return;
     }
+    let n = file.length;
     io::write_all(STDOUT_FILENO, b"trace     ");
-    io::write_all(STDOUT_FILENO, path);
+    io::write_all(STDOUT_FILENO, &name[..n]);
     io::write_all(STDOUT_FILENO, b"\n");
     summary_stream::pump(fd);
     libc::close(fd);
 }
 
-fn on_word(word: &[u8]) {
-    if is_help(word) {
-        help();
-        return;
-    }
-    if is_option(word) {
-        refuse(word);
-        return;
-    }
-    summarize(word);
-}
-
-fn one(i: usize) {
-    let mut word = io::buffer();
-    let n = os::arg(i, &mut word);
-    if os::errno() != 0 {
-        os::fail(b"path");
-        return;
-    }
-    on_word(&word[..n]);
-}
-
-fn main() {
+// One after the other, with an empty line between.
+fn each() {
     let n = os::arg_count();
-    if n < 2 {
-        summary_stream::pump(STDIN_FILENO);
-        return;
-    }
     let mut i: usize = 1;
     while i < n {
         if 1 < i {
@@ -96,5 +35,15 @@ fn main() {
         }
         one(i);
         i += 1;
+    }
+}
+
+fn main() {
+    let wish = named_files::asked_for(b"summary");
+    match wish {
+        Wish::Help => help(),
+        Wish::Refused => {}
+        Wish::Input => summary_stream::pump(STDIN_FILENO),
+        Wish::Files => each(),
     }
 }

@@ -1,8 +1,8 @@
--- `summary::main` meets its contract: each turn leaves one argument less.
+-- `summary::each` meets its contract: each turn leaves one argument less.
 use Prim.Native.Nat.{_-_}
 use borrow.Author.Needs.{needs}
-use Rattle.summary.proofs.main.Statement.{statement}
-use Rattle.summary.proofs.main.Tie as tie
+use Rattle.summary.proofs.each.Statement.{statement}
+use Rattle.summary.proofs.each.Tie as tie
 
 abbrev Inv-loop : tie.InvT-loop
 Inv-loop n i₀ t3 i = Unit {0}
@@ -12,12 +12,6 @@ abbrev μ-loop : tie.MeasureT-loop
 
 arg-count-requires : tie.Need-arg-count-requires Inv-loop μ-loop
 arg-count-requires c κs = search needs
-
-pump-requires : tie.Need-pump-requires Inv-loop μ-loop
-pump-requires c κs = search needs
-
-returns : tie.Need-returns Inv-loop μ-loop
-returns c = search needs
 
 loop-holds : tie.Need-loop-holds Inv-loop μ-loop
 loop-holds c = search needs
@@ -40,18 +34,16 @@ loop-less c = search needs
 loop-again : tie.Need-loop-again Inv-loop μ-loop
 loop-again c = search needs
 
-returns-2 : tie.Need-returns-2 Inv-loop μ-loop
-returns-2 c = search needs
+returns : tie.Need-returns Inv-loop μ-loop
+returns c = search needs
 
-pub main-spec : {M : Type 1} → statement M
-main-spec =
+pub each-spec : {M : Type 1} → statement M
+each-spec =
     tie.close
     (tie.spec
     Inv-loop
     μ-loop
     arg-count-requires
-    pump-requires
-    returns
     loop-holds
     slice-aggregate-write-all
     write-all-requires
@@ -59,4 +51,4 @@ main-spec =
     add-i
     loop-less
     loop-again
-    returns-2)
+    returns)
