@@ -1,4 +1,5 @@
 // Reads a trace and prints the judge's verdict on it, one line on standard output; of several traces, each with its name.
+use libc::STDERR_FILENO;
 use libc::STDIN_FILENO;
 use libc::STDOUT_FILENO;
 use named_files::Wish;
@@ -19,9 +20,9 @@ fn one(i: usize, named: bool) {
     }
     let n = file.length;
     if named {
-        judge_stream::pump(fd, &name[..n]);
+        judge_stream::pump(fd, &name[..n], STDERR_FILENO);
     } else {
-        judge_stream::pump(fd, b"");
+        judge_stream::pump(fd, b"", STDERR_FILENO);
     }
     libc::close(fd);
 }
@@ -41,7 +42,7 @@ fn main() {
     match wish {
         Wish::Help => help(),
         Wish::Refused => {}
-        Wish::Input => judge_stream::pump(STDIN_FILENO, b""),
+        Wish::Input => judge_stream::pump(STDIN_FILENO, b"", STDERR_FILENO),
         Wish::Files => each(),
     }
 }

@@ -6,6 +6,7 @@ use mathlib.Core.Logic.{_⊎_}
 use Prim.Native.Nat.{ℕ, zero, suc, _-_, _^_, _≤_, _<_}
 use lib.Dec.{eqb}
 use lib.ListN.{length, getD, take, drop}
+use Rattle.trace.specs.Bounds.{longestLine}
 use Rattle.trace.specs.Form.{word, lastKind, decimal}
 use Rattle.judge_reasons.specs.declared.Form.{Form}
 use Rattle.judge_reasons.specs.declared.Form.the-variants.{
@@ -13,6 +14,7 @@ use Rattle.judge_reasons.specs.declared.Form.the-variants.{
   CarriageReturn,
   ByteOrderMark,
   Compressed,
+  TooLong,
   Spaces,
   NotText,
   UnknownWord,
@@ -66,6 +68,7 @@ IsTrueOf bs Empty = length bs ≡ 0
 IsTrueOf bs CarriageReturn = (0 < length bs) × Byte bs (length bs - 1) 13
 IsTrueOf bs ByteOrderMark = Byte bs 0 239 × (Byte bs 1 187 × Byte bs 2 191)
 IsTrueOf bs Compressed = Byte bs 0 31 × Byte bs 1 139
+IsTrueOf bs TooLong = longestLine < length bs
 IsTrueOf bs (Spaces at) = (at < length bs) × (Byte bs at 32 × NoneFrom bs 0 (length bs) TAB)
 IsTrueOf bs (NotText at) = (at < length bs) × Unprinted (getD bs at 0)
 IsTrueOf bs (UnknownWord n) = FirstFrom bs 0 TAB n × NoWord (take n bs)

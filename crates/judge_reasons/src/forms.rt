@@ -10,6 +10,9 @@ use crate::fields::byte_at;
 use crate::fields::find_byte;
 use crate::fields::of_fields;
 
+// With the line feed.
+const LONGEST_LINE: usize = 72;
+
 fn is_unprinted(b: u8) -> bool
     ensures { λ r. ⌜ (r ≡ true → Unprinted b) ⌝ }
 {
@@ -73,19 +76,26 @@ fn of_start(line: &[u8]) -> Form
             return Form::Compressed;
         }
     }
-    of_text(line)
+    Form::Other
 }
 
-// Of a line's bytes without the line feed.
+// Of a line's bytes without the line feed. What is said of more bytes than a line can have is true of every line that begins with them.
 pub fn form_of(line: &[u8]) -> Form
     ensures { λ r. ⌜ IsTrueOf (now (line .entry)) r ⌝ }
 {
+    let start = of_start(line);
+    let Form::Other = start else {
+        return start;
+    };
     let n = line.len();
     if n == 0 {
         return Form::Empty;
     }
+    if LONGEST_LINE < n {
+        return Form::TooLong;
+    }
     if line[n - 1] == b'\r' {
         return Form::CarriageReturn;
     }
-    of_start(line)
+    of_text(line)
 }

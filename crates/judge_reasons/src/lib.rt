@@ -74,6 +74,7 @@ pub enum Form {
     CarriageReturn,
     ByteOrderMark,
     Compressed,
+    TooLong,
     // where a space stands
     Spaces(usize),
     // where a byte stands that is no text

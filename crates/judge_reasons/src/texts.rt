@@ -33,6 +33,7 @@ fn put_wrong(out: &mut [u8], at: usize, form: Form) -> usize
         Form::CarriageReturn => put_bytes(out, at, b"it ends in a carriage return"),
         Form::ByteOrderMark => put_bytes(out, at, b"it begins with a byte order mark"),
         Form::Compressed => put_bytes(out, at, b"the input is compressed"),
+        Form::TooLong => put_bytes(out, at, b"it is longer than any line of a trace"),
         Form::Spaces(_) => put_bytes(out, at, b"spaces where tabs should be"),
         Form::NotText(place) => put_amid(
             out,

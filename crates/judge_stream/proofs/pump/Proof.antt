@@ -1,10 +1,13 @@
 -- `judge_stream::pump` meets its contract: before each read the lines are no more than the bytes that came.
-use mathlib.Core.Path.{refl, ap, _∙_}
+use mathlib.Core.Path.{_≡_, refl, ap, sym, _∙_}
 use Rattle.judge_chunks.specs.declared.Progress.{Progress}
 use Rattle.judge_chunks.proofs.StartAndEnd.{begun-start}
 use borrow.Author.Needs.{needs}
 use native.Mathlib.Omega.{arith}
 use Prim.Native.Nat.{ℕ, _+_, _-_, _^_, _≤_}
+use lib.ListN.{length}
+use lib.Seq.{length-take-le}
+use Rattle.trace.specs.Bounds.{longestLine}
 use Rattle.judge_steps.specs.State.{lent}
 use Rattle.judge_steps.specs.Promises.{WholeSlices}
 use Rattle.judge_chunks.specs.Promises.{Begun}
@@ -17,12 +20,12 @@ abbrev most : ℕ
 most = 2 ^ 63 + mostRead
 
 abbrev Inv-loop : tie.InvT-loop
-Inv-loop fd name reservations₀ held₀ mapped₀ live₀ p₀ total₀ reservations held mapped live p total =
+Inv-loop fd name words-to reservations₀ held₀ mapped₀ live₀ head₀ kept₀ p₀ total₀ reservations held mapped live head kept p total =
     let t = lent reservations held mapped live in
-    Begun p t × (WholeSlices t × ((p .lines ≤ total) × (total ≤ most)))
+    Begun p t × (WholeSlices t × ((p .lines ≤ total) × ((total ≤ most) × ((length head ≡ longestLine + 1) × (kept ≤ length head)))))
 
 abbrev μ-loop : tie.MeasureT-loop
-μ-loop fd name reservations₀ held₀ mapped₀ live₀ p₀ total₀ reservations held mapped live p total = most - total
+μ-loop fd name words-to reservations₀ held₀ mapped₀ live₀ head₀ kept₀ p₀ total₀ reservations held mapped live head kept p total = most - total
 
 start-requires : tie.Need-start-requires Inv-loop μ-loop
 start-requires c κs = search needs
@@ -31,7 +34,7 @@ loop-holds : tie.Need-loop-holds Inv-loop μ-loop
 loop-holds c =
     let s = c .start .ensures in (
       begun-start _ s _ (record { reservations = refl; held = refl; mapped = refl; live = refl }),
-      (record { reservations = refl; held = refl; mapped = refl; live = refl }, (omega (arith, ap (λ (x : Progress). x .lines) s), omega arith)),
+      (record { reservations = refl; held = refl; mapped = refl; live = refl }, (omega (arith, ap (λ (x : Progress). x .lines) s), (omega arith, (refl, omega arith)))),
     )
 
 slice-aggregate-serve : tie.Need-slice-aggregate-serve Inv-loop μ-loop
@@ -46,8 +49,13 @@ slice-aggregate-serve-3 c = search needs
 slice-aggregate-serve-4 : tie.Need-slice-aggregate-serve-4 Inv-loop μ-loop
 slice-aggregate-serve-4 c = search needs
 
+slice-aggregate-serve-5 : tie.Need-slice-aggregate-serve-5 Inv-loop μ-loop
+slice-aggregate-serve-5 c = search needs
+
 serve-requires : tie.Need-serve-requires Inv-loop μ-loop
-serve-requires c κs = search needs
+serve-requires c κs =
+    let i = c .before .before .before .before .before .before .loop .inv in
+    (record { begun = i .0; counted = omega (arith, i .1 .1 .0, c .before .before .before .before .before .loop-test .taken) }, i .1 .1 .1 .1 .1)
 
 not-read-requires : tie.Need-not-read-requires Inv-loop μ-loop
 not-read-requires c κs = search needs
@@ -67,8 +75,21 @@ slice-aggregate-end-3 c = search needs
 slice-aggregate-end-4 : tie.Need-slice-aggregate-end-4 Inv-loop μ-loop
 slice-aggregate-end-4 c = search needs
 
+array-share-prefix-head : tie.Need-array-share-prefix-head Inv-loop μ-loop
+array-share-prefix-head c = search needs
+
+slice-aggregate-end-5 : tie.Need-slice-aggregate-end-5 Inv-loop μ-loop
+slice-aggregate-end-5 c = sym (length-take-le _ _ (c .before .before .before .before .before .before .before .before .before .before .before .before .before .serve .ensures .kept))
+
 end-requires : tie.Need-end-requires Inv-loop μ-loop
-end-requires c κs = search needs
+end-requires c κs =
+    let s = c .before .before .before .before .before .before .before .before .before .before .before .before .before .serve in
+    let k = s .kept in
+    let i = c .before .before .before .before .before .before .before .before .before .before .before .before .before .before .before .before .before .before .before .before .loop .inv .1 in
+    let w = i .0 in (
+      record { begun = s .ensures .begun; counted = omega (arith, s .ensures .lines, s .ensures .few, i .1 .0, i .1 .1 .0) },
+      record { reservations = k .1 .1 .0 ∙ w .reservations; held = k .1 .1 .1 .0 ∙ w .held; mapped = k .1 .1 .1 .1 .0 ∙ w .mapped; live = k .1 .1 .1 .1 .1 .0 ∙ w .live },
+    )
 
 returns-2 : tie.Need-returns-2 Inv-loop μ-loop
 returns-2 c = search needs
@@ -81,11 +102,22 @@ loop-less c = search needs
 
 loop-again : tie.Need-loop-again Inv-loop μ-loop
 loop-again c =
-    let s = c .before .before .before .before .before .before .before .serve in
+    let s = c .before .before .before .before .before .before .before .before .serve in
     let k = s .kept in
-    let i = c .before .before .before .before .before .before .before .before .before .before .before .before .before .loop .inv .1 in
-    let w = i .0 in
-    (s .ensures .begun, (record { reservations = k .1 .1 .0 ∙ w .reservations; held = k .1 .1 .1 .0 ∙ w .held; mapped = k .1 .1 .1 .1 .0 ∙ w .mapped; live = k .1 .1 .1 .1 .1 .0 ∙ w .live }, (omega (arith, s .ensures .lines, i .1 .0), omega (arith, s .ensures .few, c .before .before .before .before .before .before .before .before .before .before .before .before .loop-test .taken))))
+    let i = c .before .before .before .before .before .before .before .before .before .before .before .before .before .before .before .loop .inv .1 in
+    let w = i .0 in (
+      s .ensures .begun,
+      (
+        record { reservations = k .1 .1 .0 ∙ w .reservations; held = k .1 .1 .1 .0 ∙ w .held; mapped = k .1 .1 .1 .1 .0 ∙ w .mapped; live = k .1 .1 .1 .1 .1 .0 ∙ w .live },
+        (
+          omega (arith, s .ensures .lines, i .1 .0),
+          (
+            omega (arith, s .ensures .few, c .before .before .before .before .before .before .before .before .before .before .before .before .before .before .loop-test .taken),
+            (k .1 .1 .1 .1 .1 .1 .0 ∙ i .1 .1 .1 .0, s .ensures .kept),
+          ),
+        ),
+      ),
+    )
 
 too-long-requires : tie.Need-too-long-requires Inv-loop μ-loop
 too-long-requires c κs = search needs
@@ -105,6 +137,7 @@ pump-spec =
     slice-aggregate-serve-2
     slice-aggregate-serve-3
     slice-aggregate-serve-4
+    slice-aggregate-serve-5
     serve-requires
     not-read-requires
     returns
@@ -112,6 +145,8 @@ pump-spec =
     slice-aggregate-end-2
     slice-aggregate-end-3
     slice-aggregate-end-4
+    array-share-prefix-head
+    slice-aggregate-end-5
     end-requires
     returns-2
     add-total

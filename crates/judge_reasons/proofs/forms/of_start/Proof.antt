@@ -31,11 +31,13 @@ returns-2 c = (
   sym (c .before .before .before .before .byte-at2 .ensures) ∙ c .if5 .taken,
 )
 
-of-text-requires : tie.Need-of-text-requires
-of-text-requires c κs = search needs
-
 returns-3 : tie.Need-returns-3
-returns-3 c = search needs
+unfolding IsTrueOf
+returns-3 c = tt
+
+returns-4 : tie.Need-returns-4
+unfolding IsTrueOf
+returns-4 c = tt
 
 pub of-start-spec : {M : Type 1} → statement M
 of-start-spec =
@@ -46,5 +48,5 @@ of-start-spec =
     byte-at-requires-3
     returns
     returns-2
-    of-text-requires
-    returns-3)
+    returns-3
+    returns-4)
