@@ -1,4 +1,4 @@
-// Reads a trace and prints the judge's verdict on it, one line on standard output; of several traces, each with its name.
+// Reads a trace and prints the judge's verdict on it, one line on standard output, and why on standard error; of several traces, each with its name.
 use libc::STDERR_FILENO;
 use libc::STDIN_FILENO;
 use libc::STDOUT_FILENO;
@@ -7,7 +7,7 @@ use named_files::Wish;
 fn help() {
     io::write_all(
         STDOUT_FILENO,
-        b"usage: judge [FILE..]\n\nReads a trace and prints one line on standard output: accepted, rejected or large, the\nnumber of the line, and the number of the rule or of what is too large. Without a file it\nreads standard input; of several files each verdict has the file's name before it.\ndocs/TRACES.md says what the rules are, and what to look at.\n",
+        b"usage: judge [FILE..]\n\nReads a trace and prints one line on standard output: accepted, rejected or large, the\nnumber of the line, and the number of the rule or of what is too large; and why, in words,\non standard error. Without a file it reads standard input; of several files each line has\nthe file's name before it.\ndocs/TRACES.md says what the rules are, and what to look at.\n",
     );
 }
 
