@@ -43,16 +43,16 @@ fn find_unprinted(line: &[u8]) -> usize
 fn of_text(line: &[u8]) -> Form
     ensures { λ r. ⌜ IsTrueOf (now (line .entry)) r ⌝ }
 {
+    let odd = find_unprinted(line);
+    if odd < line.len() {
+        return Form::NotText(odd);
+    }
     let space = find_byte(line, 0, b' ');
     let tab = find_byte(line, 0, TAB);
     if space < line.len() {
         if line.len() <= tab {
             return Form::Spaces(space);
         }
-    }
-    let odd = find_unprinted(line);
-    if odd < line.len() {
-        return Form::NotText(odd);
     }
     of_fields(line)
 }
