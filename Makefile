@@ -18,6 +18,7 @@ compare:
 	@bash compare/scale $(SESSIONS) target/run/replay target/run/replay_tables
 	@rt staticlib finder >target/run/staticlib.out 2>&1 || { cat target/run/staticlib.out >&2; exit 1; }
 	@bash compare/lockstep $(SESSIONS)
+	@bash compare/managers $(CALLS)
 
 bench:
 	@bash bench/run

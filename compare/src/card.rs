@@ -5,7 +5,7 @@ use std::collections::BTreeMap;
 use original::driver::{Answer, Answers, Record, Word};
 
 use crate::{
-    bounds::ADDRESSES_END,
+    bounds::{Config, ADDRESSES_END},
     random::Random,
     words::{Failure, Words},
 };
@@ -37,6 +37,11 @@ pub struct RandomCard {
     fresh: Option<u64>,
     /// The last map moved a page.
     moving: bool,
+    /// Small buffers: pointer and size of those held, and pointers given back.
+    small: BTreeMap<u64, u64>,
+    dropped: Vec<u64>,
+    /// Tells cards apart where no number is to be drawn.
+    seed: u64,
 }
 
 const SUCCESS: Answer = Answer { code: 0, value: 0 };
@@ -60,6 +65,9 @@ impl RandomCard {
             done: BTreeMap::new(),
             fresh: None,
             moving: false,
+            small: BTreeMap::new(),
+            dropped: Vec::new(),
+            seed,
         }
     }
 
@@ -91,7 +99,8 @@ impl RandomCard {
     fn base(&mut self) -> u64 {
         let va_size = self.words.config.va_size;
         if self.words.high && self.roots.is_empty() {
-            return ADDRESSES_END - va_size;
+            let page_size = self.words.config.page_size;
+            return ADDRESSES_END / page_size * page_size - va_size;
         }
         if !self.roots.is_empty() && self.random.percent(self.words.touch) {
             let root = self.random.pick(&self.roots);
@@ -212,9 +221,68 @@ impl RandomCard {
             value: (id < *done) as u64,
         }
     }
+
+    fn small(&mut self, size: u64) -> Answer {
+        if self.fails(self.words.smallfail) {
+            return self.failed();
+        }
+        let value = self.small_pointer();
+        self.small.insert(value, size);
+        Answer { code: 0, value }
+    }
+
+    /// Outside every root, though one reserved later may come to lie there.
+    fn small_pointer(&mut self) -> u64 {
+        let Config {
+            page_size, va_size, ..
+        } = self.words.config;
+        for _ in 0..8 {
+            let root = self.random.pick(&self.roots);
+            let pointer = match self.random.below(7) {
+                0 => va_size * (1 + self.random.below(100)) + page_size * self.random.below(3),
+                1 => self.random.below(va_size * 100),
+                2 => root - 1,
+                3 => root + va_size,
+                4 => u64::MAX - self.random.below(300),
+                5 if !self.dropped.is_empty() => self.random.pick(&self.dropped),
+                _ => ADDRESSES_END + 256 * self.random.below(1000),
+            };
+            if self.is_credible_small(pointer) {
+                return pointer;
+            }
+        }
+        let mut above = (1..).map(|place| ADDRESSES_END + 512 * place);
+        (above.find(|pointer| self.is_credible_small(*pointer))).expect("few are held")
+    }
+
+    fn is_credible_small(&self, pointer: u64) -> bool {
+        let va_size = self.words.config.va_size;
+        let is_inside = |root: &u64| (*root..root + va_size).contains(&pointer);
+        pointer != 0 && !self.small.contains_key(&pointer) && !self.roots.iter().any(is_inside)
+    }
+
+    /// In a close the pointer alone says whether it fails: the Rust has an order of its own there.
+    fn drop_small(&mut self, pointer: u64) -> Answer {
+        let failed = if self.mood == Mood::Closing {
+            let mut own = Random::new(self.seed ^ pointer);
+            (own.percent(self.words.dropfail)).then(|| own.pick(&CODES))
+        } else {
+            (self.fails(self.words.dropfail)).then(|| self.random.pick(&CODES))
+        };
+        if let Some(code) = failed {
+            return Answer { code, value: 0 };
+        }
+        self.small.remove(&pointer);
+        self.dropped.push(pointer);
+        SUCCESS
+    }
 }
 
 impl Answers for RandomCard {
+    fn small_size(&self, pointer: u64) -> u64 {
+        self.small.get(&pointer).copied().unwrap_or_default()
+    }
+
     fn lend(&mut self, wanted: Record) -> Answer {
         match wanted.word {
             Word::Reserve => self.reserve(),
@@ -234,6 +302,8 @@ impl Answers for RandomCard {
                 SUCCESS
             }
             Word::Unmap | Word::Giveback => SUCCESS,
+            Word::Small => self.small(wanted.second),
+            Word::DropSmall => self.drop_small(wanted.first),
         }
     }
 }

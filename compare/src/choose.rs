@@ -36,6 +36,10 @@ impl Chooser {
         }
     }
 
+    pub fn stream(&mut self) -> u64 {
+        self.random.pick(&self.streams)
+    }
+
     pub fn next(&mut self, tables: &Tables) -> Call {
         self.turn_the_tide();
         if self.random.percent(self.words.bogus) {
@@ -46,7 +50,7 @@ impl Chooser {
         }
         for _ in 0..8 {
             let bytes = self.bytes(tables);
-            let stream = self.random.pick(&self.streams);
+            let stream = self.stream();
             if self.is_within_ceilings(bytes, stream, tables) {
                 return Call::Malloc { bytes, stream };
             }

@@ -8,16 +8,38 @@ type Lines = Vec<String>;
 /// Most parts of sessions are no longer than this.
 const SHORT: u64 = 400;
 
-const WORDS: [&str; 18] = [
-    "open", "malloc", "free", "close", "result", "reserve", "create", "map", "access", "unmap",
-    "release", "record", "asked", "wait", "sync", "giveback", "bad", "short",
+const WORDS: [&str; 20] = [
+    "open",
+    "malloc",
+    "free",
+    "close",
+    "result",
+    "reserve",
+    "create",
+    "map",
+    "access",
+    "unmap",
+    "release",
+    "record",
+    "asked",
+    "wait",
+    "sync",
+    "giveback",
+    "small",
+    "dropsmall",
+    "bad",
+    "short",
 ];
+
+/// The driver's words among them, and those of small buffers.
+const RECORDS: &[&str] = WORDS.split_at(5).1.split_at(11).0;
+const SMALL: &[&str] = WORDS.split_at(16).1.split_at(2).0;
 
 /// Changes one thing, or nothing where the lines do not have it.
 type Damage = fn(&mut Random, &mut Lines);
 
 /// How often each is chosen, of the sum of all.
-const DAMAGES: [(u64, Damage); 16] = [
+const DAMAGES: [(u64, Damage); 17] = [
     (40, change_a_number),
     (10, change_a_number_everywhere),
     (8, change_a_code),
@@ -28,6 +50,7 @@ const DAMAGES: [(u64, Damage); 16] = [
     (6, move_a_line),
     (5, change_a_word),
     (14, insert_a_line),
+    (8, insert_small),
     (5, malform_a_line),
     (3, cut),
     (4, move_a_call),
@@ -63,7 +86,7 @@ pub fn damaged(random: &mut Random, sessions: &[Lines]) -> String {
     text
 }
 
-/// From the opening to the end of a call.
+/// From the opening to the end of a call, or of small buffers behind it.
 fn part_of(random: &mut Random, sessions: &[Lines]) -> Lines {
     let session = &sessions[random.below(sessions.len() as u64) as usize];
     let longest = if random.percent(2) {
@@ -72,7 +95,8 @@ fn part_of(random: &mut Random, sessions: &[Lines]) -> Lines {
         random.below(SHORT) as usize
     };
     let part = &session[..longest.min(session.len())];
-    let end = part.iter().rposition(|line| word_of(line) == "result");
+    let ends = |line: &String| word_of(line) == "result" || SMALL.contains(&word_of(line));
+    let end = part.iter().rposition(ends);
     part[..end.map_or(0, |end| end + 1)].to_vec()
 }
 
@@ -255,7 +279,7 @@ fn insert_a_line(random: &mut Random, lines: &mut Lines) {
     let Some(place) = any_place(random, lines) else {
         return;
     };
-    let word = random.pick(&WORDS[5..16]);
+    let word = random.pick(RECORDS);
     let mut numbers = place_by_word(random, lines, &[word])
         .and_then(|place| numbers_of(&lines[place]))
         .unwrap_or([any_number(random, lines), any_number(random, lines), 0]);
@@ -271,6 +295,30 @@ fn insert_a_line(random: &mut Random, lines: &mut Lines) {
         place + 1
     };
     lines.insert(after, line(word, first, second, code));
+}
+
+/// Lines of small buffers, mostly between calls, where any number of them may stand.
+fn insert_small(random: &mut Random, lines: &mut Lines) {
+    let between = random.percent(80);
+    let place = if between {
+        place_by_word(random, lines, &["result"])
+    } else {
+        any_place(random, lines)
+    };
+    let Some(place) = place else {
+        return;
+    };
+    let at = if !between && random.percent(10) {
+        0
+    } else {
+        place + 1
+    };
+    for _ in 0..1 + random.below(3) {
+        let numbers = [0; 3].map(|_| any_number(random, lines));
+        let [first, second, other] = numbers;
+        let code = random.pick(&[0, 0, 0, 2, other]);
+        lines.insert(at, line(random.pick(SMALL), first, second, code));
+    }
 }
 
 fn malform_a_line(random: &mut Random, lines: &mut Lines) {
@@ -378,11 +426,14 @@ fn go_on_after_the_end(random: &mut Random, lines: &mut Lines) {
         lines.push(line("result", 0, 0, 0));
     }
     for _ in 0..1 + random.below(3) {
+        if random.percent(15) {
+            lines.push(line(random.pick(SMALL), any_number(random, lines), 1, 0));
+        }
         let word = random.pick(&["malloc", "free", "close", "malloc", "open"]);
         lines.push(line(word, any_number(random, lines), 1, 0));
         if random.percent(15) {
             let code = random.below(2);
-            lines.push(line(random.pick(&WORDS[5..16]), 0, 0, code));
+            lines.push(line(random.pick(RECORDS), 0, 0, code));
         }
         let answer = random.pick(&[1, 1, 1, 1, 1, 0]);
         let first = random.pick(&[0, 0, 0, 0, 0, 1]);

@@ -46,7 +46,7 @@ pub fn generate(
     Ok(came_up)
 }
 
-fn opening(words: Words) -> Call {
+pub(crate) fn opening(words: Words) -> Call {
     Call::Open {
         page_size: words.config.page_size,
         va_size: words.config.va_size,

@@ -15,6 +15,7 @@ const RECORDS: [&str; 11] = [
 const CALLS: [&str; 8] = [
     "malloc", "malloc", "malloc", "malloc", "free", "free", "free", "close",
 ];
+const SMALL: [&str; 2] = ["small", "dropsmall"];
 const PAGES: u64 = 20;
 const HANDLES: u64 = 7;
 const STREAMS: u64 = 3;
@@ -83,6 +84,7 @@ impl World {
     fn go_on(&mut self, random: &mut Random) {
         for _ in 0..PATIENCE {
             let word = match self.call {
+                None if random.percent(10) => random.pick(&SMALL),
                 None => random.pick(&CALLS),
                 Some(_) if random.percent(15) => "result",
                 Some(_) => random.pick(&RECORDS),
@@ -127,7 +129,7 @@ impl World {
             let word = match random.below(4) {
                 _ if result => "result",
                 0 => random.pick(&CALLS),
-                1 => random.pick(&["result", "open"]),
+                1 => random.pick(&["result", "open", "small", "dropsmall"]),
                 _ => random.pick(&RECORDS),
             };
             let numbers = self.numbers(random, word);
@@ -172,7 +174,7 @@ impl World {
             "reserve" | "giveback" => [address, self.va_size, code],
             "create" => [handle, self.page_size, code],
             "map" => [address, handle, code],
-            "access" | "unmap" => [address, bytes, code],
+            "access" | "unmap" | "small" | "dropsmall" => [address, bytes, code],
             "release" => [handle, 0, code],
             "record" | "wait" => [event, stream, code],
             "asked" => [event, random.below(2), code],

@@ -12,8 +12,8 @@ use original::driver::{Record, Word};
 use crate::text::{driver_word, fields};
 use held::Held;
 
-/// `giveback` and three numbers of twenty digits, each after a tab. A longer line is malformed.
-const LONGEST: u64 = 8 + 3 * 21;
+/// `dropsmall` and three numbers of twenty digits, each after a tab. A longer line is malformed.
+const LONGEST: u64 = 9 + 3 * 21;
 
 /// What ends a trace at a line.
 #[derive(Clone, Copy, Debug, PartialEq, Eq)]
@@ -183,6 +183,9 @@ impl Judge {
     }
 
     fn record(&mut self, record: Record) -> Result<(), Fault> {
+        if record.word.is_of_small_buffers() {
+            return self.pass_over();
+        }
         let Place::In(call) = self.place else {
             return Err(R0);
         };
@@ -206,8 +209,16 @@ impl Judge {
             Word::Release => self.held.release(first),
             Word::Record => self.held.record(first),
             Word::Asked | Word::Wait => self.held.is_recorded(first),
-            Word::Sync => Ok(()),
+            Word::Sync | Word::Small | Word::DropSmall => Ok(()),
             Word::Giveback => self.held.give_back(first, second),
+        }
+    }
+
+    /// Small buffers stand where a call could, also after the close that ended the pool.
+    fn pass_over(&self) -> Result<(), Fault> {
+        match self.place {
+            Place::Between => Ok(()),
+            Place::Start | Place::In(_) => Err(R0),
         }
     }
 

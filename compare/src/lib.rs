@@ -10,6 +10,7 @@ pub mod generate;
 pub mod invent;
 pub mod judge;
 pub mod lent;
+pub mod manager;
 pub mod program;
 pub mod random;
 pub mod replay;

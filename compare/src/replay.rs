@@ -62,7 +62,9 @@ pub fn replay(text: &[u8], mut each: impl FnMut(&Step)) -> Result<(), String> {
                     each(&replay.run(ready)?);
                 }
             }
-            (Line::Driver(record), Some(waiting)) => waiting.answers.push_back(lent_by(record)),
+            (Line::Driver(record), Some(waiting)) if !record.word.is_of_small_buffers() => {
+                waiting.answers.push_back(lent_by(record));
+            }
             _ => {}
         }
     }

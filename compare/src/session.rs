@@ -59,8 +59,29 @@ pub fn is_in_a_call() -> bool {
 #[derive(Default)]
 pub struct Session {
     pool: Option<Pool>,
-    /// The original tells streams apart by identity, so one of each number is kept.
-    streams: BTreeMap<u64, StreamGuard>,
+    streams: Streams,
+}
+
+/// The original tells streams apart by identity, so one of each number is kept.
+#[derive(Default)]
+pub(crate) struct Streams(BTreeMap<u64, StreamGuard>);
+
+impl Streams {
+    pub fn get(&mut self, number: u64) -> StreamGuard {
+        let make = || {
+            driver::number_next_stream(number);
+            StreamGuard::new(CudaStream::new_non_blocking().expect("a stream is made"))
+        };
+        self.0.entry(number).or_insert_with(make).clone()
+    }
+}
+
+/// What the original does, or how it panicked.
+pub(crate) fn caught<T>(act: impl FnOnce() -> T) -> Result<T, String> {
+    IN_A_CALL.set(true);
+    let result = panic::catch_unwind(AssertUnwindSafe(act));
+    IN_A_CALL.set(false);
+    result.map_err(|payload| panic_text(payload.as_ref()))
 }
 
 impl Session {
@@ -78,12 +99,8 @@ impl Session {
     /// Runs a call, or says how the Rust panicked; nothing can be done with the session then.
     pub fn run(&mut self, call: Call) -> Result<Outcome, String> {
         let zombies = self.tables().map_or(0, |tables| tables.zombies.len());
-        IN_A_CALL.set(true);
-        let result = panic::catch_unwind(AssertUnwindSafe(|| self.answer(call)));
-        IN_A_CALL.set(false);
-        let result = result.map_err(|payload| {
+        let result = caught(|| self.answer(call)).inspect_err(|_| {
             std::mem::forget(self.pool.take());
-            panic_text(payload.as_ref())
         })?;
         let mut records = driver::take_records();
         if call == Call::Close {
@@ -106,7 +123,7 @@ impl Session {
                 answered(base, page_size, 0)
             }
             Call::Malloc { bytes, stream } => {
-                let stream = self.stream(stream);
+                let stream = self.streams.get(stream);
                 match self.open_pool().malloc(bytes as usize, &stream) {
                     Ok(address) => answered(address, bytes, 0),
                     Err(error) => answer_of_error(error),
@@ -129,14 +146,6 @@ impl Session {
     fn open_pool(&mut self) -> &mut Pool {
         self.pool.as_mut().expect("the pool is open")
     }
-
-    fn stream(&mut self, number: u64) -> StreamGuard {
-        let make = || {
-            driver::number_next_stream(number);
-            StreamGuard::new(CudaStream::new_non_blocking().expect("a stream is made"))
-        };
-        self.streams.entry(number).or_insert_with(make).clone()
-    }
 }
 
 /// A pool left open stays so: its close would make driver calls that belong to no call.
@@ -146,7 +155,7 @@ impl Drop for Session {
     }
 }
 
-fn answered(first: u64, second: u64, answer: u64) -> Answered {
+pub(crate) fn answered(first: u64, second: u64, answer: u64) -> Answered {
     Answered {
         first,
         second,
@@ -154,7 +163,7 @@ fn answered(first: u64, second: u64, answer: u64) -> Answered {
     }
 }
 
-fn answer_of_error(error: MemoryError) -> Answered {
+pub(crate) fn answer_of_error(error: MemoryError) -> Answered {
     match error {
         MemoryError::RequestedExceedsVaChunk { requested, va_size } => {
             answered(requested as u64, va_size as u64, 8)
@@ -173,7 +182,7 @@ fn answer_of_error(error: MemoryError) -> Answered {
 
 /// The Rust closes its pages in no order of its own: their unmap and release pairs, after the sync
 /// and the zombies and before the roots, are put in ascending address.
-fn sort_pages(records: &mut [Record], zombies: usize) {
+pub(crate) fn sort_pages(records: &mut [Record], zombies: usize) {
     let start = 1 + zombies;
     let roots = records
         .iter()

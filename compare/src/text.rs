@@ -14,7 +14,7 @@ pub enum Line {
     Result,
 }
 
-const DRIVER_WORDS: [(&str, Word); 11] = [
+const DRIVER_WORDS: [(&str, Word); 13] = [
     ("reserve", Word::Reserve),
     ("create", Word::Create),
     ("map", Word::Map),
@@ -26,6 +26,8 @@ const DRIVER_WORDS: [(&str, Word); 11] = [
     ("wait", Word::Wait),
     ("sync", Word::Sync),
     ("giveback", Word::Giveback),
+    ("small", Word::Small),
+    ("dropsmall", Word::DropSmall),
 ];
 
 pub fn word_name(word: Word) -> &'static str {
@@ -100,12 +102,14 @@ pub fn trace_of(call: Call, outcome: &Outcome) -> String {
         Call::Free { address } => line("free", address, 0, 0),
         Call::Close => line("close", 0, 0, 0),
     };
-    for record in &outcome.records {
-        let name = word_name(record.word);
-        text += &line(name, record.first, record.second, record.code);
-    }
+    text += &outcome.records.iter().map(record_line).collect::<String>();
     let result = outcome.result;
     text + &line("result", result.first, result.second, result.answer)
+}
+
+pub fn record_line(record: &Record) -> String {
+    let name = word_name(record.word);
+    line(name, record.first, record.second, record.code)
 }
 
 pub fn line(word: &str, first: u64, second: u64, third: u64) -> String {

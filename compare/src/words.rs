@@ -49,6 +49,13 @@ pub struct Words {
     pub unmapfail: u64,
     pub releasefail: u64,
     pub askfail: u64,
+    /// Calls of small buffers, and mallocs of a page and more that are no multiple. With either the
+    /// session is the manager's, above the pool.
+    pub small: u64,
+    pub odd: u64,
+    /// Small buffers that the driver refuses, or fails to take back.
+    pub smallfail: u64,
+    pub dropfail: u64,
     pub fail: Failure,
     pub close: bool,
 }
@@ -61,7 +68,7 @@ Prints a random session of CALLS calls after the opening, driven by the Rust poo
   streams=N       streams in use
   largest=PAGES   the most that an ordinary malloc asks for
   memory=PAGES    what the card has; creation gives code 2 beyond
-  high=yes        the first reservation ends at 2^63
+  high=yes        the first reservation ends at 2^63, or the last multiple of a page before
   close=yes       ends by a close
   fail=CALL       goes on until create, map, access, wait, move or moved (the access after moves)
                   fails, which gives 14 and ends the session
@@ -72,6 +79,9 @@ and in percent:
   oom refuse      creations answered by code 2, reservations refused
   touch           reservations that touch an earlier one
   unmapfail releasefail askfail             failures that do not end a call
+With one of these the session is that of the manager above the pool, whose sizes are bytes:
+  small odd       calls of buffers below a page, mallocs of a page and more that are no multiple
+  smallfail dropfail                        small buffers refused, or not taken back
 A failed record is left out: the Rust panics there.
 ";
 
@@ -99,6 +109,10 @@ const MIXED: Words = Words {
     unmapfail: 0,
     releasefail: 0,
     askfail: 0,
+    small: 0,
+    odd: 0,
+    smallfail: 0,
+    dropfail: 0,
     fail: Failure::None,
     close: false,
 };
@@ -176,6 +190,10 @@ impl Words {
             "unmapfail" => &mut self.unmapfail,
             "releasefail" => &mut self.releasefail,
             "askfail" => &mut self.askfail,
+            "small" => &mut self.small,
+            "odd" => &mut self.odd,
+            "smallfail" => &mut self.smallfail,
+            "dropfail" => &mut self.dropfail,
             _ => return Err(format!("no such word: {word}")),
         };
         *field = value
@@ -203,7 +221,12 @@ impl Words {
         Ok(())
     }
 
-    fn chances(&self) -> [u64; 11] {
+    /// The session is the manager's.
+    pub fn in_bytes(&self) -> bool {
+        self.small > 0 || self.odd > 0
+    }
+
+    fn chances(&self) -> [u64; 15] {
         [
             self.free,
             self.bogus,
@@ -216,6 +239,10 @@ impl Words {
             self.unmapfail,
             self.releasefail,
             self.askfail,
+            self.small,
+            self.odd,
+            self.smallfail,
+            self.dropfail,
         ]
     }
 }

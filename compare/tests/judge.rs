@@ -44,6 +44,38 @@ fn r0_a_missing_line() {
     accepts(OPENED, "close 0 0 0\nsync 0 0 0\nresult 0 0 0");
 }
 
+/// Whatever their numbers and code; their pages and pointers are no matter of the judge's.
+#[test]
+fn r0_small_buffers_stand_between_calls() {
+    for word in ["small", "dropsmall"] {
+        let line = format!("{word} 1000 4 0");
+        rejects("", &line, 0);
+        rejects("", &format!("open 4 40 0\n{line}"), 0);
+        rejects("", &format!("open 4 40 0\nreserve 1000 40 0\n{line}"), 0);
+        rejects(OPENED, &format!("malloc 4 1 0\n{line}"), 0);
+        rejects(OPENED, &format!("free 1000 0 0\n{line}"), 0);
+        rejects(OPENED, &format!("close 0 0 0\n{line}"), 0);
+        rejects(OPENED, &format!("close 0 0 0\nsync 0 0 0\n{line}"), 0);
+        accepts(OPENED, &line);
+        accepts(
+            OPENED,
+            &format!("{line}\n{line}\nfree 0 0 0\nresult 0 0 16\n{line}"),
+        );
+        let ended = "close 0 0 0\nsync 0 0 0\nresult 0 0 0\n";
+        accepts(
+            OPENED,
+            &format!("{ended}{line}\nfree 0 0 0\nresult 0 0 1\n{line}"),
+        );
+        accepts(OPENED, &format!("{word} 0 0 2"));
+        let most = u64::MAX;
+        accepts(OPENED, &format!("{word} {most} {most} {most}"));
+        rejects(OPENED, &format!("{word} {most}0 {most} {most}"), 0);
+        rejects(OPENED, &format!("{word} 1 2"), 0);
+        rejects(OPENED, &format!("{word} 1 02 0"), 0);
+    }
+    rejects(OPENED, "drop 1 2 0", 0);
+}
+
 #[test]
 fn r0_malformed_text() {
     let lines: [&[u8]; 24] = [

@@ -44,6 +44,23 @@ fn results_are_passed_over() {
     assert_eq!(printed(&text).as_bytes(), whole());
 }
 
+/// Behind line 1 as results are, wherever they stand.
+#[test]
+fn small_buffers_are_passed_over() {
+    let text = trace(
+        "open 4 40 0\nsmall 9 3 0\nreserve 1000 40 0\ndropsmall 9 3 1\nresult 1000 4 0\n\
+         small 0 3 2\nmalloc 4 1 0\nsmall 8 1 0\ncreate 71 4 0\ndropsmall 8 1 0\nmap 1000 71 0\n\
+         access 1000 4 0\nrecord 0 1 0\nresult 1000 4 0\nsmall 9 3 0",
+    );
+    assert_eq!(printed(&text).as_bytes(), whole());
+    let first = trace(&format!("small 9 3 0\n{OPENED}"));
+    let line = "line 1: open is the first line and only that";
+    assert_eq!(complaint(REPLAY, &[], &first), line);
+    let malformed = trace(&format!("{OPENED}small 9 3"));
+    let line = "line 4: not a word and three numbers parted by tabs";
+    assert_eq!(complaint(REPLAY, &[], &malformed), line);
+}
+
 #[test]
 fn fields_shown_as_0_are_not_looked_at() {
     let text = trace(

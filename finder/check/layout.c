@@ -6,8 +6,12 @@
 #include <stdlib.h>
 #include <string.h>
 
-/* pool_close once more, with the place of its reply as a plain parameter: under x86-64's conventions a struct in memory is returned through one. */
+/* pool_close once more, with the place of its reply as a plain parameter: under x86-64's conventions a struct in memory is returned through one. And two of
+   the manager's. */
 void close_into(void *reply, pool_value pool, const uint64_t *answers, size_t answers_len, uint64_t *log, size_t log_len) __asm__("pool_close");
+void close_manager_into(void *reply, manager_value manager, const uint64_t *answers, size_t answers_len, uint64_t *log, size_t log_len)
+    __asm__("manager_close");
+void reset_into(void *value, manager_value manager) __asm__("manager_reset_highest");
 
 static uint64_t log_[POOL_LOG];
 static uint64_t answers[POOL_ANSWERS];
@@ -45,6 +49,14 @@ static void same(const pool_value *library, const pool_value *header) {
     for (size_t i = 0; i < header->roots.count; i++)
         cell("roots", i, "", library->roots.cells[i], header->roots.cells[i]);
     is("pool, past the counts", memcmp(library, header, sizeof *header) == 0, 1);
+}
+
+static void same_manager(const manager_value *library, const manager_value *header) {
+    same(&library->pool, &header->pool);
+#define FIELD_ABOVE(field) is("manager." #field, library->field, header->field)
+    FIELD_ABOVE(small.count); FIELD_ABOVE(current); FIELD_ABOVE(highest);
+    CELLS(small, pointer); CELLS(small, size); CELLS(small, stream);
+    is("manager, past the counts", memcmp(library, header, sizeof *header) == 0, 1);
 }
 
 /* The number at a record's place: 0 kind, 1 first, 2 second, 3 code. */
@@ -247,6 +259,138 @@ static void opens(void) {
     same(&r.pool, &p);
 }
 
+/* A stopped manager may hold any numbers: its close names the small buffers before what its pool holds. */
+static void closes_manager(void) {
+    static manager_value m;
+    memset(&m, 0, sizeof m);
+    m.pool.state = POOL_STATE_STOPPED;
+    m.pool.page = fresh();
+    m.pool.va = fresh();
+    m.pool.pages.cells[m.pool.pages.count++] = (pool_page){.start = fresh(), .handle = fresh()};
+    for (size_t i = 0; i < POOL_ROOTS; i++)
+        m.pool.roots.cells[m.pool.roots.count++] = fresh();
+    for (size_t i = 0; i < MANAGER_SMALLS; i++)
+        m.small.cells[m.small.count++] = (manager_small_buffer){.pointer = fresh(), .size = fresh(), .stream = fresh()};
+    m.current = fresh();
+    m.highest = fresh();
+    none_complete();
+    manager_reply r = manager_close(m, answers, POOL_ANSWERS, log_, POOL_LOG);
+    is("manager.pool.state: close of a stopped manager", r.answer, POOL_ANSWER_DONE);
+    size_t k = 0;
+    for (; k < m.small.count; k++) {
+        is("manager.small: a dropsmall", record(k, 0), POOL_WORD_DROPSMALL);
+        cell("small", k, ".pointer", record(k, 1), m.small.cells[k].pointer);
+        cell("small", k, ".size", record(k, 2), m.small.cells[k].size);
+    }
+    is("manager.small.count", record(k, 0), POOL_WORD_SYNC);
+    is("manager.pool.pages", record(k + 1, 1), m.pool.pages.cells[0].start);
+    is("manager.pool.page", record(k + 1, 2), m.pool.page);
+    is("manager.pool.pages", record(k + 2, 1), m.pool.pages.cells[0].handle);
+    k += 3;
+    is("manager.pool.va", record(k, 2), m.pool.va);
+    for (size_t i = 0; i < m.pool.roots.count; i++, k++)
+        cell("manager.pool.roots", i, "", record(k, 1), m.pool.roots.cells[i]);
+    is("manager_reply.records", r.records, k);
+    is("manager_reply.taken", r.taken, k);
+    static const manager_value closed;
+    same_manager(&r.manager, &closed);
+    /* with an answer too few, the manager comes back as it went in */
+    r = manager_close(m, answers, 2 * (k - 1), log_, POOL_LOG);
+    is("manager_reply.answer", r.answer, POOL_ANSWER_ANSWERS_RAN_OUT);
+    is("manager_reply.records", r.records, k);
+    is("manager_reply.taken", r.taken, k - 1);
+    same_manager(&r.manager, &m);
+    /* reply and value are written whole, and nothing behind them */
+    static struct { manager_reply reply; unsigned char behind[4096]; } painted;
+    memset(&painted, 0xa5, sizeof painted);
+    answers[2 * (k - 1)] = 1;
+    close_manager_into(&painted.reply, m, answers, POOL_ANSWERS, log_, POOL_LOG);
+    is("manager_reply.first: failed lines of a close", painted.reply.first, 1);
+    is("manager_reply.second", painted.reply.second, 0);
+    is("manager_reply.taken", painted.reply.taken, k);
+    for (size_t i = 0; i < sizeof painted.behind; i++)
+        is("sizeof(manager_reply): a byte behind it", painted.behind[i], 0xa5);
+    static struct { manager_value value; unsigned char behind[4096]; } reset;
+    memset(&reset, 0xa5, sizeof reset);
+    reset_into(&reset.value, m);
+    m.highest = m.current;
+    same_manager(&reset.value, &m);
+    for (size_t i = 0; i < sizeof reset.behind; i++)
+        is("sizeof(manager_value): a byte behind it", reset.behind[i], 0xa5);
+}
+
+/* Small buffers are made one after the other, and each is freed in turn from all of them: pointer, size and stream, and the whole manager after it. */
+static void small_buffers(void) {
+    static manager_value m, q;
+    memset(&m, 0, sizeof m);
+    opened(&m.pool);
+    m.highest = 1000;
+    none_complete();
+    for (size_t i = 0; i < MANAGER_SMALLS; i++) {
+        const manager_small_buffer b = {.pointer = 1 + fresh() * m.pool.va, .size = 1 + i % (m.pool.page - 1), .stream = fresh()};
+        answers[1] = b.pointer;
+        const manager_reply r = manager_malloc(m, b.size, b.stream, answers, 2, log_, POOL_LOG);
+        cell("small", i, ": malloc", r.answer, POOL_ANSWER_DONE);
+        cell("small", i, ".pointer", r.first, b.pointer);
+        cell("small", i, ".size", r.second, b.size);
+        is("manager_reply.records, a small malloc", r.records, 1);
+        m.small.cells[m.small.count++] = b;
+        m.current += b.size;
+        m.highest = m.current > m.highest ? m.current : m.highest;
+        same_manager(&r.manager, &m);
+    }
+    is("manager.small.count: one too many", manager_malloc(m, 1, 0, answers, 2, log_, POOL_LOG).answer, POOL_ANSWER_SMALLS_FULL);
+    m.highest += fresh();
+    for (size_t i = 0; i < m.small.count; i++) {
+        const manager_small_buffer b = m.small.cells[i];
+        const manager_reply r = manager_free(m, b.pointer, answers, 2, log_, POOL_LOG);
+        cell("small", i, ".pointer: free", r.answer, POOL_ANSWER_DONE);
+        cell("small", i, ".size", r.first, b.size);
+        cell("small", i, ".stream", r.second, b.stream);
+        cell("small", i, ".pointer, dropped", record(0, 1), b.pointer);
+        q = m;
+        memmove(q.small.cells + i, q.small.cells + i + 1, (MANAGER_SMALLS - 1 - i) * sizeof b);
+        q.small.cells[--q.small.count] = (manager_small_buffer){0};
+        q.current -= b.size;
+        same_manager(&r.manager, &q);
+    }
+    /* the log's length lies behind the manager on the stack: the two have one size of it */
+    is("sizeof(manager_value): a log of 2,047 records", manager_malloc(m, 1, 0, answers, 0, log_, POOL_LOG - 1).answer, POOL_ANSWER_SHORT_LOG);
+    is("manager_reply.first", manager_malloc(m, 2 * m.pool.va - 1, 0, answers, 0, log_, POOL_LOG).first, 2 * m.pool.va);
+    is("manager_reply.second", manager_malloc(m, 2 * m.pool.va - 1, 0, answers, 0, log_, POOL_LOG).second, m.pool.va);
+    is("manager.current", (m.current++, manager_malloc(m, 1, 0, answers, 0, log_, POOL_LOG).answer), POOL_ANSWER_NOT_WELL_FORMED);
+    m.current--;
+    m.highest = m.current - 1;
+    is("manager.highest", manager_malloc(m, 1, 0, answers, 0, log_, POOL_LOG).answer, POOL_ANSWER_NOT_WELL_FORMED);
+}
+
+/* The parameters of a manager's open, and a buffer of its pool. */
+static void opens_manager(void) {
+    const uint64_t stream = fresh();
+    none_complete();
+    answers[1] = 64000, answers[3] = 71, answers[7] = 72;
+    manager_reply r = manager_open(32, 64, 640, 2, stream, answers, 16, log_, POOL_LOG);
+    is("manager_open: answer", r.answer, POOL_ANSWER_DONE);
+    is("manager_open: granularity, override_size", r.second, 64);
+    is("manager_open: va_size", record(0, 2), 640);
+    is("manager_open: initial_pages", r.records, 8);
+    is("manager_open: initial_stream", record(6, 2), stream);
+    r = manager_malloc(r.manager, 100, stream, answers, 0, log_, POOL_LOG);
+    is("manager_malloc of the pool", r.answer, POOL_ANSWER_DONE);
+    static manager_value m;
+    m.pool.state = POOL_STATE_OPEN;
+    m.pool.page = 64;
+    m.pool.va = 640;
+    m.pool.counter = 1;
+    m.pool.live.cells[m.pool.live.count++] = (pool_live_buffer){.start = 64000, .size = 128, .stream = stream};
+    m.pool.holes.cells[m.pool.holes.count++] = (pool_hole){.start = 64128, .size = 512};
+    m.pool.pages.cells[m.pool.pages.count++] = (pool_page){.start = 64000, .handle = 71};
+    m.pool.pages.cells[m.pool.pages.count++] = (pool_page){.start = 64064, .handle = 72};
+    m.pool.roots.cells[m.pool.roots.count++] = 64000;
+    m.current = m.highest = 128;
+    same_manager(&r.manager, &m);
+}
+
 int main(void) {
     opens();
     closes();
@@ -254,8 +398,12 @@ int main(void) {
     fits();
     asks();
     takes();
+    opens_manager();
+    closes_manager();
+    small_buffers();
     if (wrong)
         return 1;
-    printf("layout: %d places agree; a pool has %zu bytes, a reply %zu\n", compared, sizeof(pool_value), sizeof(pool_reply));
+    printf("layout: %d places agree; a pool has %zu bytes, a reply %zu; a manager %zu, a reply %zu\n", compared, sizeof(pool_value), sizeof(pool_reply),
+           sizeof(manager_value), sizeof(manager_reply));
     return 0;
 }

@@ -1,5 +1,5 @@
-/* A made-up card of random mood, not always a credible one, and random sessions on it: for C and for C++. finder/rust/examples/session.rs has the same card and
-   the same sessions, number for number, so that the two can be compared. */
+/* A made-up card of random mood, not always a credible one, and random sessions on it, of a pool and of a manager: for C and for C++.
+   finder/rust/examples/session.rs has the same card and the same sessions, number for number, so that the two can be compared. */
 #ifndef FINDER_CHECK_WHIM_H
 #define FINDER_CHECK_WHIM_H
 
@@ -26,7 +26,8 @@ typedef struct {
     uint64_t answered; /* driver calls so far */
 } whim;
 
-/* Bases are aligned mostly and free mostly; handles are new mostly, and some are those that are guessed. Where the value is not looked at, it is anything. */
+/* Bases are aligned mostly and free mostly; handles are new mostly, and some are those that are guessed; so are pointers, and some are low enough for a root.
+   Where the value is not looked at, it is anything. */
 static inline uint64_t whim_value(const whim *card, const pool_record *call, uint64_t *choices) {
     uint64_t value;
     switch (call->kind) {
@@ -38,6 +39,10 @@ static inline uint64_t whim_value(const whim *card, const pool_record *call, uin
         return chosen(choices, 60) == 0 ? (UINT64_C(1) << 63) + chosen(choices, 60) : chosen(choices, 50000);
     case POOL_WORD_ASKED:
         return chosen(choices, 100) < card->complete ? 1 : 2 * chosen(choices, 2);
+    case POOL_WORD_SMALL:
+        if (chosen(choices, 60) == 0)
+            return (UINT64_C(1) << 63) + chosen(choices, 2);
+        return chosen(choices, 60) == 0 ? chosen(choices, 2000) : 1000000 + 16 * chosen(choices, 50000);
     default:
         return chosen(choices, 1000);
     }
@@ -52,12 +57,14 @@ static inline uint64_t whim_code(const whim *card, const pool_record *call, uint
     return kind == POOL_WORD_CREATE && chosen(choices, 4) != 0 ? 2 : 1 + chosen(choices, 3);
 }
 
-/* Depends on the seed, on how many driver calls came before, and on every number of this one. */
-static inline pool_answer whim_answer(whim *card, const pool_record *call) {
+/* Depends on the seed, on how many driver calls came before, on every number of this one, and on the stream that a manager's small buffer is for. */
+static inline pool_answer whim_answer(whim *card, const pool_record *call, uint64_t stream) {
     const uint64_t numbers[] = {card->answered++, call->kind, call->first, call->second, call->code};
     uint64_t choices = card->seed;
     for (size_t i = 0; i < sizeof numbers / sizeof *numbers; i++)
         choices = mixed(choices ^ numbers[i]);
+    if (stream != 0)
+        choices = mixed(choices ^ stream);
     pool_answer answer = {0, 0};
     answer.code = whim_code(card, call, &choices);
     answer.value = whim_value(card, call, &choices);
@@ -127,6 +134,27 @@ static inline session_call session_next(session *of, const pool_value *pool) {
         pages = 1 + chosen(&of->choices, of->kind->largest);
     call.is_free = 0;
     call.first = 4 * pages + chosen(&of->choices, 40) / 39;
+    call.second = chosen(&of->choices, of->kind->streams);
+    return call;
+}
+
+/* The next call of a manager: two of three are for small buffers, and sizes lie between whole pages too. */
+static inline session_call session_next_bytes(session *of, const pool_value *pool, const manager_small_buffers *small) {
+    session_call call = {1, 0, 0};
+    if (chosen(&of->choices, 3) == 0) {
+        call = session_next(of, pool);
+        if (!call.is_free)
+            call.first += chosen(&of->choices, 4);
+        return call;
+    }
+    if (chosen(&of->choices, 20) < of->kind->frees && small->count > 0) {
+        call.first = small->cells[chosen(&of->choices, small->count)].pointer;
+        return call;
+    }
+    call.is_free = 0;
+    call.first = chosen(&of->choices, 30) == 0 ? 0 : 1 + chosen(&of->choices, 3);
+    if (chosen(&of->choices, 60) == 0)
+        call.first = (UINT64_C(1) << 63) + chosen(&of->choices, 2);
     call.second = chosen(&of->choices, of->kind->streams);
     return call;
 }

@@ -1,6 +1,7 @@
 //! The library for Rust in lockstep with the original: the same calls on cards that answer alike.
 
 mod count;
+mod managers;
 mod ours;
 mod session;
 mod tables;
@@ -20,7 +21,7 @@ use compare::{
 
 use crate::{count::Count, session::follow};
 
-const USAGE: &str = "usage: lockstep SESSIONS";
+const USAGE: &str = "usage: lockstep SESSIONS, or lockstep --managers CALLS";
 
 /// Differences after which no further session is begun.
 const ENOUGH: usize = 5;
@@ -33,22 +34,56 @@ struct Report {
 
 fn main() {
     let arguments: Vec<String> = std::env::args().skip(1).collect();
-    let [sessions] = arguments.as_slice() else {
-        fail(USAGE);
-    };
-    let Ok(sessions) = sessions.parse() else {
-        fail(&format!("SESSIONS is not a number: {sessions}; {USAGE}"));
-    };
+    let words: Vec<&str> = arguments.iter().map(String::as_str).collect();
     report_panics();
-    let report = run(sessions);
-    print(&report.count.text());
-    for difference in &report.differences {
+    match words.as_slice() {
+        ["--managers", calls] => managers(number("CALLS", calls)),
+        [sessions] => pools(number("SESSIONS", sessions)),
+        _ => fail(USAGE),
+    }
+}
+
+fn number(name: &str, text: &str) -> u64 {
+    let Ok(number) = text.parse() else {
+        fail(&format!("{name} is not a number: {text}; {USAGE}"));
+    };
+    number
+}
+
+fn pools(sessions: u64) {
+    let Report { count, differences } = run(sessions);
+    end(
+        "lockstep",
+        sessions,
+        count.calls,
+        &count.text(),
+        &differences,
+    );
+}
+
+fn managers(calls: u64) {
+    let managers::Report {
+        sessions,
+        count,
+        differences,
+    } = managers::run(calls);
+    end(
+        "managers",
+        sessions,
+        count.calls,
+        &count.text(),
+        &differences,
+    );
+}
+
+fn end(name: &str, sessions: u64, calls: u64, counted: &str, differences: &[String]) {
+    print(counted);
+    for difference in differences {
         print(&format!("\n{difference}\n"));
     }
-    let calls = report.count.calls;
-    let differences = report.differences.len();
+    let differences = differences.len();
     let line =
-        format!("lockstep: {sessions} random sessions, {calls} calls, {differences} differences");
+        format!("{name}: {sessions} random sessions, {calls} calls, {differences} differences");
     if differences > 0 {
         fail(&line);
     }

@@ -5,12 +5,14 @@ use compare::{
     card::RandomCard,
     session::{Answered, Call, Outcome},
 };
-use original::driver::{Answers as _, Record, Word};
+use original::driver::{Answer, Answers as _, Record, Word};
 
 /// A random card as a driver. It notes its calls, and how the pool's call ended.
 pub struct Card {
     pub card: RandomCard,
     seen: Vec<Record>,
+    /// The streams of small buffers, which no record tells.
+    small_streams: Vec<u64>,
     passed_over: Vec<Record>,
     happened: Option<Told>,
 }
@@ -27,14 +29,45 @@ impl Card {
         Self {
             card,
             seen: Vec::new(),
+            small_streams: Vec::new(),
             passed_over: Vec::new(),
             happened: None,
         }
     }
 
+    /// Answers a driver call, and notes it as docs/RULES.md 2.1 says.
+    pub fn lend(&mut self, wanted: Record) -> Answer {
+        let answer = self.card.lend(wanted);
+        let (first, second) = match wanted.word {
+            Word::Reserve | Word::Create | Word::Small if answer.code == 0 => {
+                (answer.value, wanted.second)
+            }
+            Word::Asked => (wanted.first, u64::from(answer.is_complete())),
+            _ => (wanted.first, wanted.second),
+        };
+        self.seen.push(Record {
+            first,
+            second,
+            code: answer.code as u64,
+            ..wanted
+        });
+        answer
+    }
+
+    /// The same of a small buffer.
+    pub fn lend_on(&mut self, wanted: Record, stream: u64) -> Answer {
+        self.small_streams.push(stream);
+        self.lend(wanted)
+    }
+
     /// The driver calls since the last time.
     pub fn take_seen(&mut self) -> Vec<Record> {
         std::mem::take(&mut self.seen)
+    }
+
+    /// The streams of small buffers since the last time.
+    pub fn take_small_streams(&mut self) -> Vec<u64> {
+        std::mem::take(&mut self.small_streams)
     }
 
     /// The failures since the last time that, so the pool says, ended no call.
@@ -49,23 +82,12 @@ impl Card {
 }
 
 impl Answers for Card {
-    /// Notes the driver call as docs/RULES.md 2.1 says.
     fn answer(&mut self, wanted: caldarimpu::Record) -> Result<u64, Code> {
-        let wanted = record_of(&wanted);
-        let answer = self.card.lend(wanted);
-        let (first, second) = match wanted.word {
-            Word::Reserve | Word::Create if answer.code == 0 => (answer.value, wanted.second),
-            Word::Asked => (wanted.first, u64::from(answer.is_complete())),
-            _ => (wanted.first, wanted.second),
-        };
-        let code = answer.code as u64;
-        self.seen.push(Record {
-            first,
-            second,
-            code,
-            ..wanted
-        });
-        Code::new(code).map_or(Ok(answer.value), Err)
+        value_of(self.lend(record_of(&wanted)))
+    }
+
+    fn answer_on(&mut self, wanted: caldarimpu::Record, stream: u64) -> Result<u64, Code> {
+        value_of(self.lend_on(record_of(&wanted), stream))
     }
 
     fn told(&mut self, call: &Happened) {
@@ -80,6 +102,10 @@ impl Answers for Card {
     fn warned(&mut self, failed: caldarimpu::Record) {
         self.passed_over.push(record_of(&failed));
     }
+}
+
+fn value_of(answer: Answer) -> Result<u64, Code> {
+    Code::new(answer.code as u64).map_or(Ok(answer.value), Err)
 }
 
 fn outcome_of(call: &Happened) -> Outcome {

@@ -119,13 +119,18 @@ extern "C" fn cudaEventElapsedTime(_ms: *mut f32, _start: *mut c_void, _end: *mu
 }
 
 #[no_mangle]
-extern "C" fn cudaMallocAsync(_ptr: *mut *mut c_void, _size: usize, _stream: *mut c_void) -> i32 {
-    NOT_SUPPORTED
+extern "C" fn cudaMallocAsync(out: &mut *mut c_void, size: usize, stream: *mut c_void) -> i32 {
+    let mut pointer = 0;
+    let code = driver::small(size as u64, stream, &mut pointer);
+    if code == SUCCESS {
+        *out = ptr::without_provenance_mut(pointer as usize);
+    }
+    code
 }
 
 #[no_mangle]
-extern "C" fn cudaFreeAsync(_ptr: *mut c_void, _stream: *mut c_void) -> i32 {
-    NOT_SUPPORTED
+extern "C" fn cudaFreeAsync(pointer: *mut c_void, stream: *mut c_void) -> i32 {
+    driver::drop_small(pointer.addr() as u64, stream)
 }
 
 #[no_mangle]

@@ -17,6 +17,15 @@ pub enum Word {
     Wait,
     Sync,
     Giveback,
+    /// Of small buffers, which no pool asks for but the layer above it. Both stand between calls.
+    Small,
+    DropSmall,
+}
+
+impl Word {
+    pub fn is_of_small_buffers(self) -> bool {
+        matches!(self, Self::Small | Self::DropSmall)
+    }
 }
 
 #[derive(Clone, Copy, Debug, PartialEq, Eq)]
@@ -44,12 +53,21 @@ impl Answer {
 pub trait Answers {
     /// `wanted` is the record to be, with 0 for its code and for what only the answer tells.
     fn lend(&mut self, wanted: Record) -> Answer;
+
+    /// The size of a small buffer that was lent, 0 for a pointer that is none.
+    fn small_size(&self, _pointer: u64) -> u64 {
+        0
+    }
 }
 
 /// For a source that its owner also reaches between calls.
 impl<T: Answers> Answers for Rc<RefCell<T>> {
     fn lend(&mut self, wanted: Record) -> Answer {
         self.borrow_mut().lend(wanted)
+    }
+
+    fn small_size(&self, pointer: u64) -> u64 {
+        self.borrow().small_size(pointer)
     }
 }
 
@@ -65,6 +83,8 @@ struct Card {
     next_stream: u64,
     /// Successful records so far: the next one's event id.
     recorded: u64,
+    /// The streams that small buffers were asked for or given back on, which no record has.
+    small_streams: Vec<u64>,
 }
 
 thread_local! {
@@ -85,6 +105,7 @@ pub fn insert_card(granularity: usize, answers: Box<dyn Answers>) {
         streams: Vec::new(),
         next_stream: 0,
         recorded: 0,
+        small_streams: Vec::new(),
     };
     CARD.set(Some(card));
 }
@@ -105,6 +126,11 @@ pub fn make_room(records: usize) {
 /// Hands over the records noted since the last time.
 pub fn take_records() -> Vec<Record> {
     with_card(|card| std::mem::take(&mut card.records))
+}
+
+/// Hands over the streams of small buffers noted since the last time, one for each such record.
+pub fn take_small_streams() -> Vec<u64> {
+    with_card(|card| std::mem::take(&mut card.small_streams))
 }
 
 /// The id of a recorded event.
@@ -139,7 +165,7 @@ pub(crate) fn call(word: Word, first: u64, second: u64) -> i32 {
     with_card(|card| card.note(word, first, second).code)
 }
 
-/// A call whose answer's value is the record's first number: reserve and create.
+/// A call whose answer's value is the record's first number: reserve, create and small.
 pub(crate) fn call_for_value(word: Word, second: u64, out: &mut u64) -> i32 {
     with_card(|card| {
         let answer = card.note(word, 0, second);
@@ -149,6 +175,27 @@ pub(crate) fn call_for_value(word: Word, second: u64, out: &mut u64) -> i32 {
         }
         answer.code
     })
+}
+
+pub(crate) fn small(size: u64, stream: *mut c_void, out: &mut u64) -> i32 {
+    note_small_stream(stream);
+    call_for_value(Word::Small, size, out)
+}
+
+/// The card knows a small buffer's size; the original does not say it again.
+pub(crate) fn drop_small(pointer: u64, stream: *mut c_void) -> i32 {
+    note_small_stream(stream);
+    with_card(|card| {
+        let size = card.answers.small_size(pointer);
+        card.note(Word::DropSmall, pointer, size).code
+    })
+}
+
+fn note_small_stream(stream: *mut c_void) {
+    with_card(|card| {
+        let number = card.streams[place(stream)];
+        card.small_streams.push(number);
+    });
 }
 
 pub(crate) fn record(event: *mut c_void, stream: *mut c_void) -> i32 {

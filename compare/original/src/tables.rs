@@ -38,6 +38,14 @@ pub struct Page {
     pub handle: u64,
 }
 
+/// A buffer of less than a page: the manager's, not the pool's.
+#[derive(Clone, Copy, Debug, PartialEq, Eq, PartialOrd, Ord)]
+pub struct Small {
+    pub pointer: u64,
+    pub size: u64,
+    pub stream: u64,
+}
+
 #[derive(Clone, Copy, Debug, PartialEq, Eq)]
 pub struct Range {
     pub address: u64,

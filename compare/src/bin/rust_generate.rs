@@ -1,7 +1,8 @@
-//! Prints a random session that the Rust pool itself drives.
+//! Prints a random session that the Rust pool itself drives, or the manager above it.
 
 use compare::{
     generate::generate,
+    manager::{self, trace_of_step},
     program::{fail, print, report_panics},
     text::trace_of,
     words::{Words, HELP},
@@ -22,9 +23,15 @@ fn main() {
     let calls = number("CALLS", calls);
     let words = Words::read(words).unwrap_or_else(|message| fail(&message));
     report_panics();
-    let generated = generate(seed, calls, PATIENCE, words, |step| {
-        print(&trace_of(step.call, &step.outcome));
-    });
+    let generated = if words.in_bytes() {
+        manager::generate::generate(seed, calls, PATIENCE, words, |step| {
+            print(&trace_of_step(step, words.config.page_size));
+        })
+    } else {
+        generate(seed, calls, PATIENCE, words, |step| {
+            print(&trace_of(step.call, &step.outcome));
+        })
+    };
     match generated {
         Ok(true) => {}
         Ok(false) => fail("the call to fail did not come up; try another seed"),

@@ -50,6 +50,24 @@ pub struct Planned {
 
 impl Planned {
     pub fn new(number: u64) -> Self {
+        Self::with(number, "")
+    }
+
+    /// The like for the manager above the pool: with small buffers and sizes that are no multiple.
+    pub fn in_bytes(number: u64) -> Self {
+        let mut random = Random::new(!number);
+        let small = random.pick(&[5, 20, 40, 80]);
+        let odd = random.pick(&[20, 60, 100]);
+        let smallfail = random.pick(&[0, 3, 25]);
+        let dropfail = random.pick(&[0, 3, 40]);
+        let page = random.pick(&["", "", "", " page=3 va_size=99", " page=1 va_size=40"]);
+        let end = random.pick(&["", " fail=none close=yes"]);
+        let words = format!(" small={small} odd={odd} smallfail={smallfail} dropfail={dropfail}");
+        Self::with(number, &(words + page + end))
+    }
+
+    /// More words come last, and so are set last.
+    fn with(number: u64, more: &str) -> Self {
         let mut rest = number;
         let mut pick = |from: &[&'static str]| {
             let picked = from[(rest % from.len() as u64) as usize];
@@ -57,7 +75,7 @@ impl Planned {
             picked
         };
         let (bias, ending, turn) = (pick(&BIASES), pick(&ENDINGS), pick(&TURNS));
-        let words = format!("bias={bias} {ending} {turn}");
+        let words = format!("bias={bias} {ending} {turn}{more}");
         let list: Vec<String> = words.split(' ').map(str::to_string).collect();
         let seed = number + 1;
         let mut random = Random::new(seed);

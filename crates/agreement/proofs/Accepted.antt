@@ -21,7 +21,7 @@ use Rattle.agreement.proofs.Reading.{went-on}
 use Rattle.agreement.proofs.Run.{Rests, trace-read}
 
 -- lines that are read to a state between calls are accepted
-verdict-read : (n : ℕ) (s : Judge) (ls : List Line) (z : Judge) → read s ls ≡ Verdict.on z → Rests z → Verdict.verdictFrom n s (map Good ls) ≡ Accepted
+pub verdict-read : (n : ℕ) (s : Judge) (ls : List Line) (z : Judge) → read s ls ≡ Verdict.on z → Rests z → Verdict.verdictFrom n s (map Good ls) ≡ Accepted
 unfolding Verdict.atEnd
 verdict-read n s [] z e r = rw (on-on s z e, r .0, r .1)
 verdict-read n s (l ∷ ls) z e r =

@@ -35,7 +35,7 @@ use Rattle.judge_rules.specs.Verdict as Verdict
 use Rattle.judge_rules.specs.declared.Call.{Call}
 use Rattle.judge_rules.specs.declared.Call.the-variants.{Open, Malloc, Free, Close}
 use Rattle.judge_rules.specs.declared.Said.{Said}
-use Rattle.judge_rules.specs.declared.Said.the-variants.{Record, Call as Calls, Result, Unknown}
+use Rattle.judge_rules.specs.declared.Said.the-variants.{Record, Call as Calls, Result, Aside, Unknown}
 use Rattle.judge_rules.proofs.PageLaws.{filter-map}
 use Rattle.judge_rules.proofs.Steps.{ruled-on, sized-on, on-on}
 use Rattle.agreement.specs.Premises.{reliable, credible, mappedBy, mappedAfterBy, mappedAfter, fewMapped}
@@ -136,6 +136,7 @@ taken-mapped Result s l z e = go (eqb (l .third) 0) e
         addresses (z .mapped) ≡ addresses (s .mapped)
     go true q = ap addresses (answered-mapped (s .run .asked .call) (Verdict.told s) (l .first) (l .second) z q)
     go false q = ap (λ x. addresses (x .mapped)) (sym (on-on (Verdict.told s) z q))
+taken-mapped Aside s l z e = rw (← on-on _ z e)
 taken-mapped Unknown s l z e = let q : _≡_ {A = ℕ} 0 1 = cc in absurd (omega arith)
 
 -- the pages that a line leaves mapped

@@ -23,7 +23,7 @@ use Rattle.trace.specs.declared.Line.{Line}
 use Rattle.trace.specs.declared.Reading.{Reading}
 use Rattle.trace.specs.declared.Reading.the-variants.{Good, Malformed}
 use Rattle.trace.proofs.Theorems.{bad-is-malformed, short-is-malformed}
-use Rattle.replay_answers.specs.Lending.{isDriver, isResult, Passed, passed}
+use Rattle.replay_answers.specs.Lending.{isDriver, isPassedOver, Passed, passed}
 use Rattle.replay_lines.specs.Records.{printedAll}
 use Rattle.replay_lines.specs.Traced.{isOpen, callOf, lineOf, callLine, resultOf}
 use Rattle.replay_rules.specs.Replay as Replay
@@ -139,7 +139,7 @@ waiting-traces : (D : List ℕ → Type 0) (p : Pool) (w : Waiting) (n : ℕ) (r
 waiting-traces D p w n [] lines known e = known (w .answers) (λ q. []) e no-more
 waiting-traces D p w n (Malformed ∷ rs) lines known e = bad-ends n lines e
 waiting-traces D p w n (Good l ∷ rs) lines known e =
-    go (isDriver l) (isResult l) (isOpen l) _ _ _ _ refl e
+    go (isDriver l) (isPassedOver l) (isOpen l) _ _ _ _ refl e
     (waiting-traces D p (lends w l) (n + 1) rs lines known)
     (waiting-traces D p w (n + 1) rs lines known)
     (λ o q more. waiting-traces (λ xs. Traces (traceFrom q) more) q (waits n l) (n + 1) rs more (λ xs rest. call-traces q (lent (waits n l) xs) rest more o))

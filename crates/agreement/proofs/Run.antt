@@ -47,7 +47,7 @@ credible-answer : (o : Outcome) → credible (resultOf (numbers o)) ≡ true →
 unfolding credible said
 credible-answer o e = not-true (is 15 o) e
 
-credible-entry : (call : Line) (r : Reply) → every credible (entry call r) ≡ true → is 15 (r .outcome) ≡ false
+pub credible-entry : (call : Line) (r : Reply) → every credible (entry call r) ≡ true → is 15 (r .outcome) ≡ false
 credible-entry call r e =
     let b = both (credible call) _ e in
     let q = every-first credible (map ofRecord (r .records)) (resultOf (numbers (r .outcome)) ∷ []) (b .1) in

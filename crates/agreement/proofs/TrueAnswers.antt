@@ -36,7 +36,7 @@ use Rattle.judge_rules.specs.Exactly.{known, Test, ruleOfResult, ruleOf, sizeOf
 use Rattle.judge_rules.specs.declared.Call.{Call}
 use Rattle.judge_rules.specs.declared.Call.the-variants.{Open, Malloc, Free, Close}
 use Rattle.judge_rules.specs.declared.Said.{Said}
-use Rattle.judge_rules.specs.declared.Said.the-variants.{Record, Call as Calls, Result, Unknown}
+use Rattle.judge_rules.specs.declared.Said.the-variants.{Record, Call as Calls, Result, Aside, Unknown}
 use Rattle.judge_rules.specs.declared.Verdict.the-variants.{Accepted}
 use Rattle.judge_rules.proofs.Known.{came, step-is}
 use Rattle.agreement.specs.Runs.{Lent, Opening, opened, traceOf}
@@ -111,6 +111,7 @@ module _ (h : List Line) (l : Line) where
       go : (b : Bool) → eqb (l .third) 0 ≡ b → believable h l ≡ answerTest (ruleOf Result h l)
       go true q = rw (e, q) (sym (result-untested (call h .call)))
       go false q = rw (e, q) refl
+  believable-is Aside e = rw e refl
   believable-is Unknown e = rw e refl
 
   -- A line with nothing wrong is believable,

@@ -25,7 +25,7 @@ use Rattle.judge_rules.specs.Sizes.{mostMapped}
 use Rattle.judge_rules.specs.Said.{said}
 use Rattle.judge_rules.specs.Ranges.{inside}
 use Rattle.judge_rules.specs.declared.Said.{Said}
-use Rattle.judge_rules.specs.declared.Said.the-variants.{Record, Call, Result, Unknown}
+use Rattle.judge_rules.specs.declared.Said.the-variants.{Record, Call, Result, Aside, Unknown}
 
 -- The driver fails only by refusing a reservation or by code 2 while creating a page. (`asked` never stops a call: any code of it will do.)
 abbrev pub mayAnswer : Word → ℕ → Bool
@@ -45,6 +45,7 @@ abbrev pub reliableBy : Said → Line → Bool
 reliableBy (Record w) l = mayAnswer w (l .third)
 reliableBy (Call c) l = true
 reliableBy Result l = true
+reliableBy Aside l = true
 reliableBy Unknown l = true
 
 unfoldable pub reliable : Line → Bool
@@ -55,6 +56,7 @@ abbrev pub credibleBy : Said → Line → Bool
 credibleBy Result l = not (eqb (l .third) 15)
 credibleBy (Record w) l = true
 credibleBy (Call c) l = true
+credibleBy Aside l = true
 credibleBy Unknown l = true
 
 unfoldable pub credible : Line → Bool
@@ -78,6 +80,7 @@ abbrev pub mappedAfterBy : Said → Line → List ℕ → List ℕ
 mappedAfterBy (Record w) l m = cond (eqb (l .third) 0) (mappedBy w (l .first) (l .second) m) m
 mappedAfterBy (Call c) l m = m
 mappedAfterBy Result l m = m
+mappedAfterBy Aside l m = m
 mappedAfterBy Unknown l m = m
 
 unfoldable pub mappedAfter : Line → List ℕ → List ℕ

@@ -4,6 +4,7 @@ use mathlib.Core.Bool.{Bool, true, false, cond, _||_, not}
 use mathlib.Core.List.{List}
 use mathlib.Core.Option.{Option, some, none}
 use Prim.Native.Nat.{ℕ, _+_, _%_}
+use borrow.Author.Tests.{not-false}
 use lib.Dec.{ltb, leb, eqb}
 use Rattle.lists.specs.Tests.{first}
 use Rattle.words.specs.declared.Record.{Record}
@@ -21,13 +22,18 @@ use Rattle.tables.specs.declared.LiveBuffer.{LiveBuffer}
 use Rattle.tables.specs.declared.Pool.{Pool}
 use Rattle.tables.specs.declared.Outcome.the-variants.{PoolClosed, PoolStopped, NotWellFormed, ShortLog, IdsSpent}
 use Rattle.keeping.specs.Holds.{After}
+use Rattle.keeping.proofs.WellFormedEnters.{Entered, enters}
+use Rattle.keeping.proofs.Calls.{is-open}
 use Rattle.answering.specs.Answers.{openNumbers, mallocNumbers, freeNumbers, closeNumbers, numbersOf, among}
 use Rattle.answering.proofs.Steps.{openSteps-answer, mallocSteps-answer, freeSteps-answer, closeSteps-ends}
 
--- what holds of both ways that a test can go
+-- what holds of both ways that a test can go, where the way on knows the result
+pub tested : {A : Type 0} (K : A → Type 0) (b : Bool) (x y : A) → K x → (b ≡ false → K y) → K (cond b x y)
+tested K true x y h g = h
+tested K false x y h g = g refl
+
 pub either-way : {A : Type 0} (K : A → Type 0) (b : Bool) (x y : A) → K x → K y → K (cond b x y)
-either-way K true x y h g = h
-either-way K false x y h g = g
+either-way K b x y h g = tested K b x y h (λ _. g)
 
 -- the outcome of a reply is one of the list
 abbrev Answered : List ℕ → Reply → Type 0
@@ -43,16 +49,22 @@ open-answers granularity override va initial stream xs log =
     (record { reserves = λ _ _. refl; memory = λ _ _. refl; fails = λ _. refl; incredible = refl; short = refl })
     initial stream xs 0 (noTables (pageSize granularity override) va)))
 
--- what holds of 1 to 5, and of how the call goes on
+-- what holds of 1 to 5, and of how the call goes on, which knows the tables at entry
+pub admitted-entered : (K : Reply → Type 0) (p : Pool) (log : ℕ) (r : Reply) → K (refused p PoolClosed) → K (refused p PoolStopped) →
+    K (refused p NotWellFormed) → K (refused p ShortLog) → K (refused p IdsSpent) → (Entered p → K r) → K (admitted p log r)
+unfolding admitted
+admitted-entered K p log r gone stops forms logs ids h =
+    tested K (eqb (p .state) closed) _ _ gone (λ _.
+    tested K (eqb (p .state) stopped) _ _ stops (λ running.
+    tested K (not (wellFormed p)) _ _ forms (λ formed.
+    tested K (ltb log LOG) _ _ logs (λ _.
+    tested K (leb IDS (p .counter)) _ _ ids (λ _.
+    let w = not-false (wellFormed p) formed in
+    h (enters p (is-open p w running) w))))))
+
 pub admitted-by : (K : Reply → Type 0) (p : Pool) (log : ℕ) (r : Reply) → K (refused p PoolClosed) → K (refused p PoolStopped) →
     K (refused p NotWellFormed) → K (refused p ShortLog) → K (refused p IdsSpent) → K r → K (admitted p log r)
-unfolding admitted
-admitted-by K p log r gone stops forms logs ids h =
-    either-way K (eqb (p .state) closed) _ _ gone
-    (either-way K (eqb (p .state) stopped) _ _ stops
-    (either-way K (not (wellFormed p)) _ _ forms
-    (either-way K (ltb log LOG) _ _ logs
-    (either-way K (leb IDS (p .counter)) _ _ ids h))))
+admitted-by K p log r gone stops forms logs ids h = admitted-entered K p log r gone stops forms logs ids (λ _. h)
 
 malloc-answers : (p : Pool) (n s : ℕ) (xs : List ℕ) (log : ℕ) → among mallocNumbers (malloc p n s xs log .outcome) ≡ true
 unfolding mallocBy finished

@@ -4,8 +4,8 @@ use mathlib.Core.List.{List}
 use Prim.Native.Nat.{ℕ}
 use Rattle.words.specs.declared.Answer.{Answer}
 use Rattle.tables.specs.Values.{Tables}
-use Rattle.tables.specs.Steps.{Step, Act, _>>=_, give, end, endIf, each, tables, change}
-use Rattle.tables.specs.Driver.{must, try, isComplete}
+use Rattle.tables.specs.Steps.{Step, Act, _>>=_, give, end, each, tables, change}
+use Rattle.tables.specs.Driver.{must, try}
 use Rattle.tables.specs.declared.Outcome.{Outcome}
 use Rattle.tables.specs.declared.Outcome.the-variants.{DriverFailed, AnswersRanOut}
 use Rattle.keeping.specs.Holds.{Holds}
@@ -15,16 +15,12 @@ use Rattle.keeping.proofs.Holds.{
   holds-to,
   holds-then,
   holds-give,
-  holds-end,
   holds-looked,
   holds-change,
   holds-cond,
-  holds-endIf,
   holds-each,
-  holds-drive,
   holds-must,
   holds-try,
-  holds-isComplete,
 }
 
 abbrev pub Ends : {A : Type 0} → (Outcome → Type 0) → Step A → Type 0
@@ -37,9 +33,6 @@ module _ (F : Outcome → Type 0) where
   pub ends-give : {A : Type 0} (a : A) → Ends F (give a)
   ends-give a = holds-give a
 
-  pub ends-end : {A : Type 0} (o : Outcome) → F o → Ends F (end {A = A} o)
-  ends-end o f = holds-from (λ _ _. f) (holds-end o)
-
   pub ends-looked : {B : Type 0} {f : Tables → Step B} → ((u : Tables) → Ends F (f u)) → Ends F (tables >>= f)
   ends-looked h = holds-looked (λ u _. holds-from (λ _ _. tt) (h u))
 
@@ -49,22 +42,13 @@ module _ (F : Outcome → Type 0) where
   pub ends-cond : {A : Type 0} (b : Bool) {m n : Step A} → Ends F m → Ends F n → Ends F (cond b m n)
   ends-cond b h g = holds-cond b (λ _. h) (λ _. g)
 
-  pub ends-endIf : (b : Bool) (o : Outcome) → F o → Ends F (endIf b o)
-  ends-endIf b o f = holds-to (λ _ _ _. tt) (holds-endIf b o (λ _ _ _. f))
-
   pub ends-each : {A : Type 0} {f : A → Act} → ((x : A) → Ends F (f x)) → (l : List A) → Ends F (each f l)
   ends-each h l = holds-each (λ _ _. Unit {0}) (λ x _. h x) l
 
   -- 17 is how a driver call may end a call, and 14 how one may that must not fail.
   module _ (short : F AnswersRanOut) where
-    pub ends-drive : {m : Step Answer} → Drives m → Ends F m
-    ends-drive d = holds-drive d (λ _ _. short)
-
     pub ends-try : {m : Step Answer} → Drives m → Ends F (try m)
     ends-try d = holds-try d (λ _ _. short)
-
-    pub ends-isComplete : (id : ℕ) → Ends F (isComplete id)
-    ends-isComplete id = holds-isComplete id (λ _ _. short)
 
     pub ends-must : ((code : ℕ) → F (DriverFailed code)) → {m : Step Answer} → Drives m → Ends F (must m)
     ends-must fails d = holds-must d (λ _ _. short) (λ code _ _. fails code)

@@ -13,12 +13,11 @@ use lib.ListN.{length}
 use Rattle.lists.specs.Tests.{every}
 use Rattle.lists.proofs.Tests.{both, neither, either, cases-lt}
 use Rattle.words.specs.Answers.{valueOf, failed}
-use Rattle.tables.specs.Bounds.{END, HOLES, IDS, LOG, PAGES, ROOTS, SPANS, ZOMBIES}
-use Rattle.tables.specs.Values.{Tables, address, opened, closed, stopped, poolOf, atEntry, withHoles}
+use Rattle.tables.specs.Bounds.{END, HOLES, PAGES, ROOTS, SPANS, ZOMBIES}
+use Rattle.tables.specs.Values.{Tables, address, opened, poolOf, atEntry, withHoles}
 use Rattle.tables.specs.Steps.{Ending, on, ends, Went, Step, after, _>>=_, _>>_, endIf}
 use Rattle.tables.specs.Outcomes.{numbers, is}
-use Rattle.tables.specs.WellFormed.{wellFormed}
-use Rattle.tables.specs.HandsBack.{Reply, refused, outcomeOf, poolAfter, finished, admitted}
+use Rattle.tables.specs.HandsBack.{refused, outcomeOf, poolAfter, finished}
 use Rattle.tables.specs.InsertHole.{from, insertHole}
 use Rattle.tables.specs.InsertFree.{bytes}
 use Rattle.tables.specs.TakeRange.{smallestHole, cutHole, credible, reserveRoot, takeHole, takeRange}
@@ -54,8 +53,7 @@ use Rattle.keeping.proofs.MakeRoom.{taken-begins, aligned-missing}
 use Rattle.keeping.proofs.Cleanup.{cleans-up}
 use Rattle.keeping.proofs.Fit.{Fitting}
 use Rattle.keeping.proofs.Malloc.{begins, begins-again, admits-room}
-use Rattle.keeping.proofs.WellFormedEnters.{enters, entry-page, entry-spans}
-use Rattle.keeping.proofs.Calls.{is-open}
+use Rattle.keeping.proofs.WellFormedEnters.{Entered, entry-page, entry-spans}
 use Rattle.keeping.proofs.Holds.{
   holds-from,
   holds-to,
@@ -74,6 +72,7 @@ use Rattle.answering.specs.Answers.{among}
 use Rattle.answering.specs.Leaves.{cleaned, beforeRoom, TakenBack, fromHole, fromRoot, Leaves}
 use Rattle.answering.proofs.Ends.{Ends, ends-then}
 use Rattle.answering.proofs.Rules.{cleanup-ends, inserts-new, fills}
+use Rattle.answering.proofs.Calls.{tested, admitted-entered}
 use Rattle.answering.proofs.HolesBack.{hole-back, root-back}
 use Rattle.answering.proofs.PagesBack.{makes-or-back}
 
@@ -309,11 +308,9 @@ module _ (p : Pool) (n s : ℕ) (xs : List ℕ) where
       }
 
   -- none of 1 to 7 applies
-  leaves-entered : eqb (p .state) stopped ≡ false → not (wellFormed p) ≡ false → (eqb n 0 || not (eqb (n % p .page) 0)) ≡ false →
-      leb SPANS (p .free .count + p .live .count) ≡ false → Leaves p n xs (finished p (mallocSteps n s xs 0 (atEntry p)))
-  leaves-entered running formed sized spare =
-      let w = not-false (wellFormed p) formed in
-      let h = enters p (is-open p w running) w in
+  leaves-entered : Entered p → (eqb n 0 || not (eqb (n % p .page) 0)) ≡ false → leb SPANS (p .free .count + p .live .count) ≡ false →
+      Leaves p n xs (finished p (mallocSteps n s xs 0 (atEntry p)))
+  leaves-entered h sized spare =
       let z = neither (eqb n 0) (not (eqb (n % p .page) 0)) sized in
       let zero : n ≡ 0 → ⊥ = eqb-false n 0 (z .0) in
       let whole : Whole (p .page) n = record { positive = omega arith; aligned = eqb-true (n % p .page) 0 (not-false (eqb (n % p .page) 0) (z .1)) } in
@@ -321,22 +318,12 @@ module _ (p : Pool) (n s : ℕ) (xs : List ℕ) where
       let spans : length (atEntry p .free) + length (atEntry p .live) ≤ SPANS - 1 = omega (arith, entry-spans p, few) in
       leaves-finished (mallocSteps n s xs 0 (atEntry p)) (steps-leave (h .lost) n s xs (atEntry p) (h .kept, (rw (entry-page p) whole, spans)))
 
-  -- a test, whose result the way on knows
-  tested : (b : Bool) (x y : Reply) → Leaves p n xs x → (b ≡ false → Leaves p n xs y) → Leaves p n xs (cond b x y)
-  tested true x y h g = h
-  tested false x y h g = g refl
-
 -- What a malloc leaves, of any pool and whatever it is handed and answered.
 pub malloc-leaves : (p : Pool) (n s : ℕ) (xs : List ℕ) (log : ℕ) → Leaves p n xs (malloc p n s xs log)
-unfolding mallocBy admitted
+unfolding mallocBy
 malloc-leaves p n s xs log =
+    let K = Leaves p n xs in
     let no = leaves-refused p n s xs in
-    let test = tested p n s xs in
-    test (eqb (p .state) closed) _ _ (no _ (refl, refl)) (λ _.
-    test (eqb (p .state) stopped) _ _ (no _ (refl, refl)) (λ running.
-    test (not (wellFormed p)) _ _ (no _ (refl, refl)) (λ formed.
-    test (ltb log LOG) _ _ (no _ (refl, refl)) (λ _.
-    test (leb IDS (p .counter)) _ _ (no _ (refl, refl)) (λ _.
-    test (eqb n 0 || not (eqb (n % p .page) 0)) _ _ (no _ (refl, refl)) (λ sized.
-    test (leb SPANS (p .free .count + p .live .count)) _ _ (no _ (refl, refl)) (λ spare.
-    leaves-entered p n s xs running formed sized spare)))))))
+    admitted-entered K p log _ (no _ (refl, refl)) (no _ (refl, refl)) (no _ (refl, refl)) (no _ (refl, refl)) (no _ (refl, refl)) (λ h.
+    tested K (eqb n 0 || not (eqb (n % p .page) 0)) _ _ (no _ (refl, refl)) (λ sized.
+    tested K (leb SPANS (p .free .count + p .live .count)) _ _ (no _ (refl, refl)) (λ spare. leaves-entered p n s xs h sized spare)))

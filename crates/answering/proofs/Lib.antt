@@ -1,4 +1,5 @@
 pub mod Ends
+pub mod Stays
 pub mod Rules
 pub mod Steps
 pub mod Calls
@@ -6,3 +7,8 @@ pub mod Unchanged
 pub mod HolesBack
 pub mod PagesBack
 pub mod Leaves
+pub mod Live
+pub mod Few
+pub mod PageSize
+pub mod Stops
+pub mod OpenLive

@@ -1,21 +1,17 @@
 -- What the steps of each call may answer: 0 where they go on to the end, else what their rules may end a call with.
 use mathlib.Core.Path.{_≡_}
-use mathlib.Core.Bool.{true, _&&_, _||_}
+use mathlib.Core.Bool.{true}
 use mathlib.Core.List.{List}
-use mathlib.Core.Option.{Option, some, none}
-use Prim.Native.Nat.{ℕ, _+_, _-_, _*_, _/_}
-use lib.Dec.{ltb, leb, eqb}
-use lib.ListN.{length}
-use Rattle.tables.specs.Bounds.{HOLES, PAGES, ROOTS, ZOMBIES}
+use mathlib.Core.Option.{Option}
+use Prim.Native.Nat.{ℕ, _*_}
+use lib.Dec.{eqb}
 use Rattle.tables.specs.Values.{Tables}
 use Rattle.tables.specs.Steps.{Ending, on, ends, Step}
 use Rattle.tables.specs.Outcomes.{is}
-use Rattle.tables.specs.TakeRange.{smallestHole}
 use Rattle.tables.specs.NewPages.{at}
-use Rattle.tables.specs.MakeRoom.{missing}
 use Rattle.tables.specs.HandsBack.{outcomeOf}
 use Rattle.tables.specs.Open.{openSteps}
-use Rattle.tables.specs.Malloc.{noHole, roomRefused, orRoom, handOver, mallocSteps}
+use Rattle.tables.specs.Malloc.{orRoom, handOver, mallocSteps}
 use Rattle.tables.specs.Free.{freeSteps}
 use Rattle.tables.specs.Close.{closeSteps}
 use Rattle.tables.specs.declared.FreeRegion.{FreeRegion}
@@ -42,12 +38,11 @@ use Rattle.answering.proofs.Ends.{
   ends-looked,
   ends-change,
   ends-cond,
-  ends-endIf,
   ends-each,
   ends-try,
   ends-must,
 }
-use Rattle.answering.proofs.Rules.{cleanup-ends, fit-ends, insertFree-ends, reserveRoot-ends, makeRoom-ends}
+use Rattle.answering.proofs.Rules.{cleanup-ends, fit-ends, insertFree-ends, reserveRoot-ends, makeRoom-ends, orRoom-ends}
 
 -- `F` holds of every success.
 abbrev pub Done : (Outcome → Type 0) → Type 0
@@ -94,20 +89,8 @@ module _ (F : Outcome → Type 0) where
   openSteps-answer done m initial stream = answers F done (open-succeeds initial stream) (opens m initial stream)
 
   module _ (m : Met F) (r : NoRoom F) (n s : ℕ) where
-    refuses : Ends F (roomRefused n)
-    unfolding roomRefused
-    refuses =
-        ends-looked F (λ t.
-        let pulled = length (t .zombies) + length (t .free) in
-        ends-then F (ends-endIf F (ltb (t .fields .va) n) (RequestedExceedsVa n (t .fields .va)) (r .exceeds n (t .fields .va))) (λ _.
-        ends-then F (ends-endIf F (ltb PAGES (length (t .pages) + missing n t / t .fields .page)) PagesFull (r .pages)) (λ _.
-        ends-then F (ends-endIf F (ltb ZOMBIES pulled || ltb (HOLES - 1) (pulled + length (t .holes))) ZombiesFull (r .zombies)) (λ _.
-        ends-endIf F (noHole (smallestHole n (t .holes)) && leb ROOTS (length (t .roots))) RootsFull (r .roots)))))
-
     or-room : (o : Option FreeRegion) → Ends F (orRoom n s o)
-    unfolding orRoom
-    or-room none = ends-then F refuses (λ _. makeRoom-ends F (m .short) (m .fails) (m .reserves) (m .incredible) (m .memory) n s)
-    or-room (some q) = ends-give F q
+    or-room = orRoom-ends F (m .short) (m .fails) (m .reserves) (m .incredible) (m .memory) (r .exceeds) (r .pages) (r .zombies) (r .roots) n s
 
     hands-over : (q : FreeRegion) → Ends F (handOver n s q)
     unfolding handOver

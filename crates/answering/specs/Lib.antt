@@ -1,3 +1,4 @@
 pub mod Answers
 pub mod Leaves
 pub mod Unchanged
+pub mod Live

@@ -13,7 +13,7 @@ use Rattle.finder.specs.declared.Reply.{Reply}
 
 -- The version of the layout and of the answers.
 abbrev pub version : ℕ
-version = 1
+version = 2
 
 -- The pool, the numbers, how many records stand in the log and how many answers were taken.
 abbrev pub told : rule.Reply → Reply

@@ -1,8 +1,16 @@
-// The pool for C and Rust: its four calls under C's conventions, with the promises of those that they call, and for the outcome its numbers
+// The pool for C and Rust, and in layer.rt the layer that takes bytes: the four calls of each under C's conventions, with the promises of those that they call, and for the outcome its numbers
 // (docs/RULES.md 4.1).
+mod layer;
+
 ghost use mathlib.Core.Path.{_≡_};
 ghost use Rattle.finder.specs.Promises.{version, TellsOpen, TellsMalloc, TellsFree, TellsClose};
 use calls::Pool;
+pub use layer::manager_close;
+pub use layer::manager_free;
+pub use layer::manager_malloc;
+pub use layer::manager_open;
+pub use layer::manager_reset_highest;
+use manager::Manager;
 use words::Address;
 
 // What a call hands back: `answer` is the number, `first` and `second` its two values; `records` were written to the log, `taken` answers were taken.
@@ -16,8 +24,19 @@ pub struct Reply {
     pub taken: usize,
 }
 
+// As `Reply`, with the layer in the pool's place.
+#[repr(C)]
+pub struct ManagerReply {
+    pub manager: Manager,
+    pub answer: u64,
+    pub first: u64,
+    pub second: u64,
+    pub records: usize,
+    pub taken: usize,
+}
+
 // The version of the layout and of the answers. finder/pool.h has the same number.
-const VERSION: u64 = 1;
+const VERSION: u64 = 2;
 
 #[no_mangle]
 pub extern "C" fn pool_version() -> u64

@@ -7,7 +7,7 @@ use mathlib.Core.Option.{none, some}
 use Prim.Native.Nat.{ℕ, _+_, _%_, _^_, _≤_, _<_}
 use lib.Dec.{leb, eqb}
 use Rattle.lists.specs.Tests.{any}
-use Rattle.trace.specs.Kinds.{OPEN, RESULT}
+use Rattle.trace.specs.Kinds.{OPEN, RESULT, SMALL}
 use Rattle.trace.specs.declared.Line.{Line}
 use Rattle.judge_rules.specs.Ranges.{inside, clear}
 use Rattle.judge_rules.specs.Rules.{Judge, Reservation, Page, Live, isIn, isMapped}
@@ -17,6 +17,7 @@ use Rattle.judge_reasons.specs.declared.Reason.the-variants.{
   OpenAgain,
   PageSizeZero,
   CallWithinCall,
+  AsideWithinCall,
   RecordOutside,
   ResultOutside,
   AfterClose,
@@ -86,6 +87,7 @@ IsTrue s l NotOpened = (s .run .opened ≡ false) × Other (l .kind) OPEN
 IsTrue s l OpenAgain = (s .run .opened ≡ true) × (l .kind ≡ OPEN)
 IsTrue s l PageSizeZero = (l .kind ≡ OPEN) × (l .first ≡ 0)
 IsTrue s l CallWithinCall = (s .run .waiting ≡ true) × ((OPEN ≤ l .kind) × (l .kind < RESULT))
+IsTrue s l AsideWithinCall = (s .run .waiting ≡ true) × (SMALL ≤ l .kind)
 IsTrue s l RecordOutside = (s .run .waiting ≡ false) × (l .kind < OPEN)
 IsTrue s l ResultOutside = (s .run .waiting ≡ false) × (l .kind ≡ RESULT)
 IsTrue s l AfterClose = s .run .over ≡ true

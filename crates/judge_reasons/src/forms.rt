@@ -11,7 +11,7 @@ use crate::fields::find_byte;
 use crate::fields::of_fields;
 
 // With the line feed.
-const LONGEST_LINE: usize = 72;
+const LONGEST_LINE: usize = 73;
 
 fn is_unprinted(b: u8) -> bool
     ensures { λ r. ⌜ (r ≡ true → Unprinted b) ⌝ }

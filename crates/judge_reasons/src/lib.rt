@@ -26,6 +26,7 @@ pub enum Reason {
     OpenAgain,
     PageSizeZero,
     CallWithinCall,
+    AsideWithinCall,
     RecordOutside,
     ResultOutside,
     AfterClose,

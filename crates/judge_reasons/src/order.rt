@@ -22,6 +22,9 @@ fn of_run(s: State, l: Line) -> Reason
         if kind < Line::RESULT {
             return Reason::CallWithinCall;
         }
+        if Line::SMALL <= kind {
+            return Reason::AsideWithinCall;
+        }
         if over {
             return Reason::AfterClose;
         }

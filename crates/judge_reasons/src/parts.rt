@@ -6,7 +6,7 @@ use trace::Line;
 use trace::Reading;
 use trace::put_bytes;
 
-const LONGEST_WORD: usize = 8;
+const LONGEST_WORD: usize = 9;
 
 // Of the largest number, 2^64 - 1.
 const MOST_DIGITS: usize = 20;

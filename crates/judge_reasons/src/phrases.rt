@@ -89,6 +89,7 @@ fn put_order(out: &mut [u8], at: usize, rule: u64, reason: Reason) -> usize
         Reason::OpenAgain => put_bytes(out, at, b"a second open"),
         Reason::PageSizeZero => put_bytes(out, at, b"the page size of the open is 0"),
         Reason::CallWithinCall => put_bytes(out, at, b"a call before the result of the last one"),
+        Reason::AsideWithinCall => put_bytes(out, at, b"a small buffer's line inside a call"),
         Reason::RecordOutside => put_bytes(out, at, b"a record that belongs to no call"),
         Reason::ResultOutside => put_bytes(out, at, b"a result that belongs to no call"),
         Reason::AfterClose => put_bytes(

@@ -43,20 +43,8 @@ fn put_wrong(out: &mut [u8], at: usize, form: Form) -> usize
             b" bytes comes one that is no text",
         ),
         Form::UnknownWord(_) => put_bytes(out, at, b"it begins with no word of a trace"),
-        Form::TooFewFields(n) => put_amid(
-            out,
-            at,
-            b"it has ",
-            n as u64,
-            b" tabs, and not three",
-        ),
-        Form::TooManyFields(n) => put_amid(
-            out,
-            at,
-            b"it has ",
-            n as u64,
-            b" tabs, and not three",
-        ),
+        Form::TooFewFields(n) => put_amid(out, at, b"it has ", n as u64, b" tabs, and not three"),
+        Form::TooManyFields(n) => put_amid(out, at, b"it has ", n as u64, b" tabs, and not three"),
         Form::NotANumber(place, _) => put_amid(
             out,
             at,

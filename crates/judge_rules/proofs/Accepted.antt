@@ -23,7 +23,7 @@ use Rattle.judge_rules.specs.Exactly.{begun, known, untested, atRecord, 
 use Rattle.judge_rules.specs.declared.Call.{Call}
 use Rattle.judge_rules.specs.declared.Call.the-variants.{Open, Malloc, Free, Close}
 use Rattle.judge_rules.specs.declared.Said.{Said}
-use Rattle.judge_rules.specs.declared.Said.the-variants.{Record, Call as Calls, Result, Unknown}
+use Rattle.judge_rules.specs.declared.Said.the-variants.{Record, Call as Calls, Result, Aside, Unknown}
 use Rattle.judge_rules.specs.declared.Verdict.the-variants.{Accepted}
 use Rattle.judge_rules.proofs.PageLaws.{some-not}
 use Rattle.judge_rules.proofs.Keeps.{Firm, Upheld, sound-of, firm-none, firm-filter, with-buffers, keeps-reserve, keeps-create, keeps-map, keeps-unmap, keeps-release, keeps-giveback}
@@ -117,6 +117,10 @@ module _ (h : List Line) (l : Line) (g : UpheldAfter h) where
       go true q t = answered (call h .call) (call h .first) (call h .second) refl e q t
       go false q t = rw (e, q) (g .upheld)
 
+  passed-over : said (l .kind) ≡ Aside → R0 Aside (known h .run) l ≡ true → UpheldAfter (l ∷ h)
+  unfolding R0
+  passed-over e r = record { page = λ _. rw e (g .page (both (begun h) _ r .0)); upheld = rw e (g .upheld) }
+
   line-upholds : faultOf h l ≡ none → UpheldAfter (l ∷ h)
   line-upholds f =
       let w = said (l .kind) in
@@ -127,6 +131,7 @@ module _ (h : List Line) (l : Line) (g : UpheldAfter h) where
       go (Calls c) e r t = called c e r
       go (Record w) e r t = recorded w e r t
       go Result e r t = resulted e r t
+      go Aside e r t = passed-over e r
       go Unknown e r t = absurd (unknown h l r)
 
 nothing-upheld : UpheldAfter []

@@ -16,7 +16,7 @@ use Rattle.judge_rules.specs.InBounds.{InBounds}
 use Rattle.judge_rules.specs.declared.Call.{Call}
 use Rattle.judge_rules.specs.declared.Call.the-variants.{Open, Malloc, Free, Close}
 use Rattle.judge_rules.specs.declared.Said.{Said}
-use Rattle.judge_rules.specs.declared.Said.the-variants.{Record, Call as Calls, Result, Unknown}
+use Rattle.judge_rules.specs.declared.Said.the-variants.{Record, Call as Calls, Result, Aside, Unknown}
 use Rattle.judge_rules.proofs.Steps.{ruled-on, sized-fits, on-on}
 
 module _ (s : Judge) (f : InBounds s) where
@@ -96,6 +96,7 @@ bounds-line Result s l z o f e = go (eqb (l .third) 0) e
     go : (t : Bool) → cond t (answered (s .run .asked .call) (told s) (l .first) (l .second)) (on (told s)) ≡ on z → InBounds z
     go true e = bounds-answer (told s) (bounds-told s f) (s .run .asked .call) (l .first) (l .second) z e
     go false e = subst InBounds (on-on (told s) z e) (bounds-told s f)
+bounds-line Aside s l z o f e = subst InBounds (on-on s z e) f
 bounds-line Unknown s l z o f e = let y : _≡_ {A = ℕ} 0 1 = cc in absurd (omega arith)
 
 pub bounds-step : (w : Said) (s : Judge) (l : Line) (z : Judge) → InBounds s → judged w s l ≡ on z → InBounds z

@@ -20,7 +20,7 @@ use Rattle.judge_rules.specs.Exactly.{plainPage, plain, begun, known, at
 use Rattle.judge_rules.specs.declared.Call.{Call}
 use Rattle.judge_rules.specs.declared.Call.the-variants.{Open, Malloc, Free, Close}
 use Rattle.judge_rules.specs.declared.Said.{Said}
-use Rattle.judge_rules.specs.declared.Said.the-variants.{Record, Call as Calls, Result, Unknown}
+use Rattle.judge_rules.specs.declared.Said.the-variants.{Record, Call as Calls, Result, Aside, Unknown}
 use Rattle.judge_rules.proofs.PageLaws.{filter-map}
 
 -- what a line comes to, by what is wrong with it
@@ -93,6 +93,10 @@ module _ (h : List Line) (l : Line) where
   answered-is Free x y k e o q = rw (e, k, q, o, filter-map (λ b. not (eqb (b .start) x)) plain (live h)) refl
   answered-is Close x y k e o q = rw (e, k, q, o) refl
 
+  aside-is : said (l .kind) ≡ Aside → begun h ≡ true → Comes Aside
+  unfolding taken
+  aside-is e o = rw (e, o) refl
+
   comes : (w : Said) → said (l .kind) ≡ w → R0 w (known h .run) l ≡ true → Comes w
   unfolding R0
   comes (Calls c) e r = called-is c e
@@ -115,6 +119,7 @@ module _ (h : List Line) (l : Line) where
       go : (b : Bool) → eqb (l .third) 0 ≡ b → Comes Result
       go true q = answered-is (call h .call) (call h .first) (call h .second) refl e o q
       go false q = refused-is e o q
+  comes Aside e r = aside-is e (both (begun h) _ r .0)
   comes Unknown e r = absurd (false≢true (both (begun h) false r .1))
 
   pub step-is : step (known h) (Good l) ≡ came (faultOf h l) (known (l ∷ h))

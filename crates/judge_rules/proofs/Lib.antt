@@ -7,4 +7,5 @@ pub mod HandsOver
 pub mod Accepted
 pub mod Steps
 pub mod InBounds
+pub mod Asides
 pub mod Sessions

@@ -10,7 +10,7 @@ use Rattle.words.specs.Words.{number}
 use Rattle.words.specs.declared.Word.{Word}
 use Rattle.words.specs.declared.Word.the-variants.{Reserve, Create, Map, Access, Unmap, Release, Record as RecordEvent, Asked as AskedFor, Wait, Sync, Giveback}
 use Rattle.trace.specs.Form.{line}
-use Rattle.trace.specs.Kinds.{openLine, mallocLine, freeLine, closeLine, resultLine}
+use Rattle.trace.specs.Kinds.{SMALL, DROPSMALL, openLine, mallocLine, freeLine, closeLine, resultLine}
 use Rattle.trace.specs.declared.Reading.{Reading}
 use Rattle.trace.specs.declared.Reading.the-variants.{Good, Malformed}
 use Rattle.judge_rules.specs.Said.{said}
@@ -38,6 +38,12 @@ close = Good closeLine
 
 abbrev result : ℕ → ℕ → ℕ → Reading
 result first second answer = Good (resultLine first second answer)
+
+abbrev small : ℕ → ℕ → ℕ → Reading
+small pointer size code = Good (line SMALL pointer size code)
+
+abbrev dropped : ℕ → ℕ → ℕ → Reading
+dropped pointer size code = Good (line DROPSMALL pointer size code)
 
 -- the example of a trace
 abbrev example : List Reading
@@ -100,7 +106,7 @@ whole-accepted = refl
 -- no result; no line at all; after a close, a call and its result, a record, and another result.
 r0 : map verdict
     (set whole 0 (opening 0 40 0)
-    ∷ set whole 9 (Good (line 17 0 0 0))
+    ∷ set whole 9 (Good (line 19 0 0 0))
     ∷ set whole 9 Malformed
     ∷ set whole 14 (opening 4 40 0)
     ∷ set whole 4 (free 1000)
@@ -113,6 +119,18 @@ r0 : map verdict
     ≡ Rejected 1 0 ∷ Rejected 10 0 ∷ Rejected 10 0 ∷ Rejected 15 0 ∷ Rejected 5 0 ∷ Rejected 22 0 ∷ Rejected 1 0 ∷ Accepted ∷ Rejected 24 0 ∷ Rejected 24 0 ∷ []
 unfolding said pages wholePages noneLive noHandleTwice credible inReservation ruled sized R0 R1 R2 R3 R4 R5 R6 R7 R8 R9recorded R9asked R10 recorded answered taken judged atEnd verdict
 r0 = refl
+
+-- Small buffers' lines: between calls and behind a close, with codes of failure too; as the first line; inside a call; and for its result.
+asides : map verdict
+    ((take 3 whole ++ small 16 2 0 ∷ dropped 16 2 0 ∷ drop 3 whole ++ small 24 2 0 ∷ [])
+    ∷ (take 3 whole ++ small 0 2 2 ∷ drop 3 whole ++ dropped 24 2 9 ∷ malloc 4 1 ∷ result 0 0 1 ∷ small 16 2 0 ∷ [])
+    ∷ (small 16 2 0 ∷ whole)
+    ∷ (take 4 whole ++ small 16 2 0 ∷ drop 4 whole)
+    ∷ set whole 13 (dropped 16 2 0)
+    ∷ [])
+    ≡ Accepted ∷ Accepted ∷ Rejected 1 0 ∷ Rejected 5 0 ∷ Rejected 14 0 ∷ []
+unfolding said pages wholePages noneLive noHandleTwice credible inReservation ruled sized R0 R1 R2 R3 R4 R5 R6 R7 R8 R9recorded R9asked R10 recorded answered taken judged atEnd verdict
+asides = refl
 
 -- R1: a base that is no page multiple, another size, an overlap, an end above 2^63
 r1 : map verdict

@@ -41,7 +41,7 @@ use Rattle.judge_rules.specs.Meaning.{Buffer, leftBy, live, newestFirst}
 use Rattle.judge_rules.specs.declared.Call.{Call}
 use Rattle.judge_rules.specs.declared.Call.the-variants.{Open, Malloc, Free, Close}
 use Rattle.judge_rules.specs.declared.Said.{Said}
-use Rattle.judge_rules.specs.declared.Said.the-variants.{Record, Call as Calls, Result, Unknown}
+use Rattle.judge_rules.specs.declared.Said.the-variants.{Record, Call as Calls, Result, Aside, Unknown}
 use Rattle.judge_rules.specs.declared.Verdict.{Verdict}
 use Rattle.judge_rules.specs.declared.Verdict.the-variants.{Accepted, Rejected, Large}
 
@@ -140,12 +140,14 @@ abbrev pub ruleOf : Said → List Line → Line → Test
 ruleOf (Record w) h l = ifDone l (ruleOfRecord w (atRecord h) l)
 ruleOf Result h l = ifDone l (ruleOfResult (call h .call) (known h) l)
 ruleOf (Calls c) h l = untested
+ruleOf Aside h l = untested
 ruleOf Unknown h l = untested
 
 abbrev pub sizeOf : Said → List Line → Line → Test
 sizeOf (Record w) h l = ifDone l (sizeOfRecord w (known h))
 sizeOf Result h l = ifDone l (sizeOfResult (call h .call) (known h))
 sizeOf (Calls c) h l = untested
+sizeOf Aside h l = untested
 sizeOf Unknown h l = untested
 
 -- What is wrong with a line: it breaks a rule, or passes a size.

@@ -10,7 +10,7 @@ use Rattle.judge_rules.specs.Said.{ifOpen}
 use Rattle.judge_rules.specs.Ranges.{inside, clear, pages}
 use Rattle.judge_rules.specs.declared.Run.{Run}
 use Rattle.judge_rules.specs.declared.Said.{Said}
-use Rattle.judge_rules.specs.declared.Said.the-variants.{Record, Call, Result, Unknown}
+use Rattle.judge_rules.specs.declared.Said.the-variants.{Record, Call, Result, Aside, Unknown}
 
 pub record Reservation : Type 0 where
   pub base : ℕ
@@ -65,16 +65,19 @@ abbrev pub isOpen : Said → Bool
 isOpen (Call c) = ifOpen c true false
 isOpen (Record w) = false
 isOpen Result = false
+isOpen Aside = false
 isOpen Unknown = false
 
 abbrev pub openFirst : Said → Run → Line → Bool
 openFirst what run l = cond (isOpen what) (not (run .opened) && not (eqb (l .first) 0)) (run .opened)
 
--- a call, its records and its result follow each other; once the pool is over, a call has no record and is answered 1.
+-- a call, its records and its result follow each other, and a small buffer's line stands between calls; once the pool is over, a call has no record and is
+-- answered 1.
 abbrev pub inRuns : Said → Run → Line → Bool
 inRuns (Call c) run l = not (run .waiting)
 inRuns (Record w) run l = run .waiting && not (run .over)
 inRuns Result run l = run .waiting && (not (run .over) || eqb (l .first) 0 && eqb (l .second) 0 && eqb (l .third) 1)
+inRuns Aside run l = not (run .waiting)
 inRuns Unknown run l = false
 
 unfoldable pub R0 : Said → Run → Line → Bool

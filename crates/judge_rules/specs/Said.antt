@@ -1,4 +1,4 @@
--- docs/RULES.md 6.2: what the kind of a line stands for, a driver's word, a call, `result`.
+-- docs/RULES.md 6.2: what the kind of a line stands for, a driver's word, a call, `result`, or a small buffer's line.
 use mathlib.Core.List.{List, [], _∷_}
 use Prim.Native.Nat.{ℕ}
 use lib.ListN.{getD}
@@ -19,7 +19,7 @@ use Rattle.trace.specs.declared.Line.{Line}
 use Rattle.judge_rules.specs.declared.Call.{Call}
 use Rattle.judge_rules.specs.declared.Call.the-variants.{Open, Malloc, Free, Close}
 use Rattle.judge_rules.specs.declared.Said.{Said}
-use Rattle.judge_rules.specs.declared.Said.the-variants.{Record, Call as Calls, Result, Unknown}
+use Rattle.judge_rules.specs.declared.Said.the-variants.{Record, Call as Calls, Result, Aside, Unknown}
 use Rattle.judge_rules.specs.declared.Asked.{Asked}
 
 -- from 0, which is no kind
@@ -42,6 +42,8 @@ kinds =
     ∷ Calls Free
     ∷ Calls Close
     ∷ Result
+    ∷ Aside
+    ∷ Aside
     ∷ []
 
 unfoldable pub said : ℕ → Said
@@ -59,6 +61,7 @@ abbrev pub askedBy : Said → Line → Asked → Asked
 askedBy (Calls c) l before = record { call = c; first = l .first; second = l .second }
 askedBy (Record w) l before = before
 askedBy Result l before = before
+askedBy Aside l before = before
 askedBy Unknown l before = before
 
 -- before any line

@@ -18,19 +18,21 @@ use Rattle.judge_rules.specs.declared.Asked.{Asked}
 use Rattle.judge_rules.specs.declared.Call.{Call}
 use Rattle.judge_rules.specs.declared.Call.the-variants.{Open, Malloc, Free, Close}
 use Rattle.judge_rules.specs.declared.Said.{Said}
-use Rattle.judge_rules.specs.declared.Said.the-variants.{Record, Call as Calls, Result, Unknown}
+use Rattle.judge_rules.specs.declared.Said.the-variants.{Record, Call as Calls, Result, Aside, Unknown}
 
 -- A line is a record; a result.
 abbrev pub isRecord : Said → Bool
 isRecord (Record w) = true
 isRecord (Calls c) = false
 isRecord Result = false
+isRecord Aside = false
 isRecord Unknown = false
 
 abbrev pub isResult : Said → Bool
 isResult Result = true
 isResult (Record w) = false
 isResult (Calls c) = false
+isResult Aside = false
 isResult Unknown = false
 
 -- A call by a number, to compare it by.
@@ -45,6 +47,7 @@ abbrev pub didBy : Word → Said → ℕ → Bool
 didBy w (Record v) code = eqb code 0 && eqb (number v) (number w)
 didBy w (Calls c) code = false
 didBy w Result code = false
+didBy w Aside code = false
 didBy w Unknown code = false
 
 abbrev pub did : Word → Line → Bool
@@ -59,14 +62,21 @@ abbrev pub vaSize : List Line → ℕ
 vaSize [] = 0
 vaSize (l ∷ before) = cond (isOpen (said (l .kind))) (l .second) (vaSize before)
 
--- The call that the newest lines belong to, and whether its result is still to come.
+-- The call that the newest lines belong to, and whether its result is still to come: a small buffer's line says nothing of either.
 abbrev pub call : List Line → Asked
 call [] = nothingAsked
 call (l ∷ before) = askedBy (said (l .kind)) l (call before)
 
+abbrev pub waitsBy : Said → Bool → Bool
+waitsBy (Calls c) before = true
+waitsBy (Record w) before = true
+waitsBy Result before = false
+waitsBy Aside before = before
+waitsBy Unknown before = true
+
 abbrev pub waiting : List Line → Bool
 waiting [] = false
-waiting (l ∷ before) = not (isResult (said (l .kind)))
+waiting (l ∷ before) = waitsBy (said (l .kind)) (waiting before)
 
 -- The line is a result of the call `c`, with third number 0.
 abbrev pub succeeds : Call → Line → List Line → Bool

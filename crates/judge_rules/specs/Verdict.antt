@@ -40,7 +40,7 @@ use Rattle.judge_rules.specs.declared.Call.{Call}
 use Rattle.judge_rules.specs.declared.Call.the-variants.{Open, Malloc, Free, Close}
 use Rattle.judge_rules.specs.declared.Run.{Run}
 use Rattle.judge_rules.specs.declared.Said.{Said}
-use Rattle.judge_rules.specs.declared.Said.the-variants.{Record, Call as Calls, Result, Unknown}
+use Rattle.judge_rules.specs.declared.Said.the-variants.{Record, Call as Calls, Result, Aside, Unknown}
 use Rattle.judge_rules.specs.declared.Verdict.{Verdict}
 use Rattle.judge_rules.specs.declared.Verdict.the-variants.{Accepted, Rejected, Large}
 
@@ -146,12 +146,13 @@ abbrev pub told : Judge → Judge
 told s =
     withRun s (record { opened = s .run .opened; page = s .run .page; va = s .run .va; asked = s .run .asked; waiting = false; over = s .run .over })
 
--- A failed record has no rule but R0, and changes nothing else.
+-- A failed record has no rule but R0, and changes nothing else. A small buffer's line changes nothing, whatever its code.
 unfoldable pub taken : Said → Judge → Line → Step
 taken (Calls c) s l = on (called c s l)
 taken (Record w) s l =
     cond (eqb (l .third) 0) (recorded w (ended (s .run .asked .call) s) (l .first) (l .second)) (on (ended (s .run .asked .call) s))
 taken Result s l = cond (eqb (l .third) 0) (answered (s .run .asked .call) (told s) (l .first) (l .second)) (on (told s))
+taken Aside s l = on s
 taken Unknown s l = broken 0
 
 unfoldable pub judged : Said → Judge → Line → Step

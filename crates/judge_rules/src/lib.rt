@@ -14,6 +14,8 @@ pub enum Said {
     Record(Word),
     Call(Call),
     Result,
+    // a small buffer's line, which stands between calls and says nothing of the pool
+    Aside,
     Unknown,
 }
 

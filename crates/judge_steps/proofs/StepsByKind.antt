@@ -17,8 +17,8 @@ use Rattle.judge_rules.specs.Verdict.{on, broken, ended, recorded, answered, ta
 use Rattle.judge_rules.specs.declared.Call.{Call}
 use Rattle.judge_rules.specs.declared.Call.the-variants.{Open, Malloc, Free, Close}
 use Rattle.judge_rules.specs.declared.Run.{Run}
-use Rattle.judge_rules.specs.declared.Said.the-variants.{Record, Call as Calls, Result, Unknown}
-use Rattle.judge_steps.specs.State.{Lent, judgeOf, withRun, runOn, runAt, startsRun, inRun, endsRun, withoutLive}
+use Rattle.judge_rules.specs.declared.Said.the-variants.{Record, Call as Calls, Result, Aside, Unknown}
+use Rattle.judge_steps.specs.State.{Lent, judgeOf, withRun, runOn, runAt, startsRun, inRun, endsRun, betweenRuns, withoutLive}
 use Rattle.judge_steps.specs.Promises.{MappedFit, LiveFit, TablesFit, PagedOnceOpened, Ready}
 use Rattle.judge_steps.specs.declared.State.{State}
 use Rattle.judge_steps.proofs.StepsByRule.{refused, passed}
@@ -86,6 +86,14 @@ module _ (s : State) (t : Lent) (l : Line) where
   result-done e f =
       rw (eq-eqb (l .third) 0 f)
       (passed 0 (endsRun (s .run) l) (answered (s .run .asked .call) (judgeOf (withRun s (runAt (s .run) false (s .run .over))) t) (l .first) (l .second)) e)
+
+  pub aside-refused : betweenRuns (s .run) ≡ false → broken 0 ≡ judged Aside (judgeOf s t) l
+  unfolding judged judgeOf R0
+  aside-refused e = refused 0 (betweenRuns (s .run)) _ e
+
+  pub aside-on : betweenRuns (s .run) ≡ true → on (judgeOf s t) ≡ judged Aside (judgeOf s t) l
+  unfolding judged taken judgeOf R0
+  aside-on e = passed 0 (betweenRuns (s .run)) (on (judgeOf s t)) e
 
   -- what the next function asks, of the state without live buffers and of the one at the end of a run
   pub ready-ended : (z : State) → z ≡ withoutLive (s .run .asked .call) s → inRun (s .run) ≡ true → Ready s t → (0 < z .run .page) × TablesFit z t

@@ -92,7 +92,7 @@ runOn c r l =
 abbrev pub runAt : Run → Bool → Bool → Run
 runAt r waiting over = record { opened = r .opened; page = r .page; va = r .va; asked = r .asked; waiting = waiting; over = over }
 
--- R0 of a call line, of a record, of a result
+-- R0 of a call line, of a record, of a result, of a small buffer's line
 abbrev pub startsRun : Call → Run → ℕ → Bool
 startsRun c r first = ifOpen c (not (r .opened) && not (eqb first 0)) (r .opened) && not (r .waiting)
 
@@ -101,6 +101,9 @@ inRun r = r .opened && (r .waiting && not (r .over))
 
 abbrev pub endsRun : Run → Line → Bool
 endsRun r l = r .opened && (r .waiting && (not (r .over) || eqb (l .first) 0 && eqb (l .second) 0 && eqb (l .third) 1))
+
+abbrev pub betweenRuns : Run → Bool
+betweenRuns r = r .opened && not (r .waiting)
 
 abbrev pub withoutLive : Call → State → State
 withoutLive Open s = s

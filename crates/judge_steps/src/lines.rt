@@ -2,9 +2,9 @@
 ghost use mathlib.Core.Path.{_≡_};
 ghost use Prim.Native.Nat.{_<_};
 ghost use Rattle.judge_rules.specs.Said.{said, ifOpen};
-ghost use Rattle.judge_rules.specs.declared.Said.the-variants.{Record, Call as Calls};
+ghost use Rattle.judge_rules.specs.declared.Said.the-variants.{Record, Call as Calls, Aside};
 ghost use Rattle.judge_steps.specs.declared.Outcome.the-variants.{Broken};
-ghost use Rattle.judge_steps.specs.State.{Lent, lent, withRun, withoutLive, runOn, runAt, startsRun, inRun, endsRun};
+ghost use Rattle.judge_steps.specs.State.{Lent, lent, withRun, withoutLive, runOn, runAt, startsRun, inRun, endsRun, betweenRuns};
 ghost use Rattle.judge_steps.specs.Promises.{found, left, MappedFit, LiveFit, PagedOnceOpened, Ready, AnswersAsked, Steps, StepsResult};
 use crate::Outcome;
 use crate::State;
@@ -149,11 +149,13 @@ fn said_of(kind: u64) -> Said
         Line::FREE => Said::Call(Call::Free),
         Line::CLOSE => Said::Call(Call::Close),
         Line::RESULT => Said::Result,
+        Line::SMALL => Said::Aside,
+        Line::DROPSMALL => Said::Aside,
         _ => Said::Unknown,
     }
 }
 
-// R0 for a call line, a record, a result.
+// R0 for a call line, a record, a result, a small buffer's line.
 fn starts_run(c: Call, run: Run, first: u64) -> bool
     ensures { λ r. ⌜ r ≡ startsRun c run first ⌝ }
 {
@@ -204,6 +206,15 @@ fn ends_run(run: Run, l: Line) -> bool
         return false;
     }
     l.third == 1
+}
+
+fn between_runs(run: Run) -> bool
+    ensures { λ r. ⌜ r ≡ betweenRuns run ⌝ }
+{
+    if !run.opened {
+        return false;
+    }
+    !run.waiting
 }
 
 fn broken(s: State) -> Stepped
@@ -274,6 +285,19 @@ fn step_result(s: State, mapped: &[u64], live: &mut [u64], l: Line) -> Stepped
     on_answer(t, mapped, live, l.first, l.second)
 }
 
+// A small buffer's line.
+fn step_aside(s: State, l: Line) -> Stepped
+    ensures { λ r. ⌜ ((t : Lent) → Steps Aside s l t r t) ⌝ }
+{
+    if !between_runs(s.run) {
+        return broken(s);
+    }
+    Stepped {
+        state: s,
+        outcome: Outcome::On,
+    }
+}
+
 // One line.
 pub fn step(
     s: State,
@@ -292,6 +316,7 @@ pub fn step(
         Said::Record(word) => step_record(s, reservations, held, mapped, live, word, l),
         Said::Call(c) => step_call(s, c, l),
         Said::Result => step_result(s, mapped, live, l),
+        Said::Aside => step_aside(s, l),
         Said::Unknown => broken(s),
     }
 }

@@ -35,7 +35,7 @@ struct Step {
 const MOST_BYTES: u64 = 0x8000_0000_0000_0000;
 
 // A byte more than the longest line has, with its line feed: what such a line begins with is enough to tell what is wrong with it.
-const LINE_ROOM: usize = 73;
+const LINE_ROOM: usize = 74;
 
 fn not_written() {
     io::write_all(STDERR_FILENO, b"judge: the verdict cannot be written\n");

@@ -59,7 +59,7 @@ admitted-keeps p log r w f = go (eqb (p .state) closed) (eqb (p .state) stopped)
 but-well-formed : {lost : ℕ → ℕ} (t : Tables) → KeptBut lost t → wellFormed (poolOf opened t) ≡ true
 but-well-formed t k = well-formed _ t (k .kept)
 
-malloc-keeps : (p : Pool) (n s : ℕ) (xs : List ℕ) (log : ℕ) → wellFormed p ≡ true → wellFormed (malloc p n s xs log .pool) ≡ true
+pub malloc-keeps : (p : Pool) (n s : ℕ) (xs : List ℕ) (log : ℕ) → wellFormed p ≡ true → wellFormed (malloc p n s xs log .pool) ≡ true
 unfolding mallocBy
 malloc-keeps p n s xs log w = admitted-keeps p log _ w (λ o. go (eqb n 0 || not (eqb (n % p .page) 0)) refl (leb SPANS (p .free .count + p .live .count)) refl (enters p o w))
   where
@@ -75,7 +75,7 @@ malloc-keeps p n s xs log w = admitted-keeps p log _ w (λ o. go (eqb n 0 || not
         (malloc-leaves (h .lost) p xs (atEntry p) n s
         (h .kept, (rw (entry-page p) whole, omega (arith, entry-spans p, leb-false SPANS (p .free .count + p .live .count) q))))
 
-free-keeps : (p : Pool) (a : ℕ) (xs : List ℕ) (log : ℕ) → wellFormed p ≡ true → wellFormed (free p a xs log .pool) ≡ true
+pub free-keeps : (p : Pool) (a : ℕ) (xs : List ℕ) (log : ℕ) → wellFormed p ≡ true → wellFormed (free p a xs log .pool) ≡ true
 unfolding free freeFound
 free-keeps p a xs log w = admitted-keeps p log _ w (λ o. go (first (λ b. eqb (b .start .0) a) (atEntry p .live)) refl (enters p o w))
   where

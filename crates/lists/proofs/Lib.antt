@@ -9,6 +9,7 @@ pub mod Maps
 pub mod Order
 pub mod Filters
 pub mod Members
+pub mod Distinct
 pub mod Pairs
 pub mod Least
 pub mod InOrder

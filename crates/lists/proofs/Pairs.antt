@@ -43,7 +43,7 @@ module _ {ℓ} {A : Type ℓ} where
   pairs-all P [] a = tt
   pairs-all P (x ∷ l) a = (all-implies P (λ y. P x × P y) (λ y p. (a .0, p)) l (a .1), pairs-all P l (a .1))
 
-  pairs-append : (R : A → A → Type 0) (l m : List A) → Pairs R l → Pairs R m → All (λ x. All (R x) m) l → Pairs R (l ++ m)
+  pub pairs-append : (R : A → A → Type 0) (l m : List A) → Pairs R l → Pairs R m → All (λ x. All (R x) m) l → Pairs R (l ++ m)
   pairs-append R [] m r s a = s
   pairs-append R (x ∷ l) m r s a = (all-append (R x) l m (r .0) (a .0), pairs-append R l m (r .1) s (a .1))
 

@@ -1,17 +1,17 @@
 -- What is kept of the lent answers: one pair more stands behind the others, and behind the last pair that is kept nothing more is.
-use mathlib.Core.Path.{_≡_, refl, sym, ap, _∙_}
-use mathlib.Core.Bool.{Bool, true, false, true≢false}
+use mathlib.Core.Path.{_≡_, sym, ap, _∙_}
+use mathlib.Core.Bool.{true, false}
 use mathlib.Core.List.{List, [], _∷_, _++_}
 use Prim.Native.Nat.{ℕ, _+_, _*_, _≤_, _<_, min}
 use native.Mathlib.Omega.{arith}
 use native.Mathlib.Numerals.{add-one}
-use borrow.Author.Tests.{le-leb, lt-leb, ne-eqb}
+use borrow.Author.Tests.{le-leb, lt-leb}
 use lib.ListN.{length, take, drop, set, length-set, length-append, length-take}
 use lib.Seq.{sets-eq, take-all, take-at, take-append-le, length-take-le}
-use Rattle.trace.specs.Kinds.{lastDriver, OPEN, RESULT}
+use Rattle.trace.specs.Kinds.{lastDriver, OPEN}
 use Rattle.trace.specs.declared.Line.{Line}
-use Rattle.replay_answers.specs.Lending.{isDriver, isCall, valueIn, answerIn}
-use Rattle.replay_answers.specs.Promises.{KEPT, Keeps, lentBy, Lends}
+use Rattle.replay_answers.specs.Lending.{isDriver, valueIn, answerIn}
+use Rattle.replay_answers.specs.Promises.{KEPT, Keeps, Lends}
 
 module _ {cells : List ℕ} {count : ℕ} {xs : List ℕ} (k : Keeps cells count xs) where
   kept-length : 2 * count ≡ min (2 * KEPT) (length xs)
@@ -48,32 +48,20 @@ module _ {cells : List ℕ} {count : ℕ} {xs : List ℕ} (k : Keeps cells count
   keeps-spare ys h =
       record { room = k .room; few = k .few; front = k .front ∙ sym (take-append-le (2 * KEPT) xs ys (omega (arith, kept-length))) }
 
--- the words by their kinds
+-- the words by their kinds: the driver's stand below `open`
 pub driver-below : (l : Line) → l .kind < OPEN → isDriver l ≡ true
 driver-below l h = le-leb (l .kind) lastDriver (omega arith)
 
 pub no-driver : (l : Line) → OPEN ≤ l .kind → isDriver l ≡ false
 no-driver l h = lt-leb (l .kind) lastDriver (omega arith)
 
-pub result-lends : (l : Line) (xs : List ℕ) → l .kind ≡ RESULT → lentBy l xs ≡ xs
-result-lends l xs e = rw (no-driver l (omega arith))
-
--- what is no call and no result is the driver's
-pub driver-lends : (l : Line) (xs : List ℕ) → isCall l ≡ false → (l .kind ≡ RESULT → ⊥) → lentBy l xs ≡ xs ++ answerIn l
-unfolding isCall
-driver-lends l xs e h = go (isDriver l) refl
-  where
-    go : (b : Bool) → isDriver l ≡ b → lentBy l xs ≡ xs ++ answerIn l
-    go true d = rw d
-    go false d = absurd (true≢false (sym (rw (d, ne-eqb (l .kind) RESULT h)) ∙ e))
-
 module _ (l : Line) {cells : List ℕ} {count : ℕ} where
-  pub result-lent : l .kind ≡ RESULT → count ≤ KEPT → Lends l cells count cells count
-  result-lent e h = record { keeps = λ g xs k. rw (result-lends l xs e) k; few = h }
+  pub none-lent : OPEN ≤ l .kind → count ≤ KEPT → Lends l cells count cells count
+  none-lent e h = record { keeps = λ xs k. rw (no-driver l e) k; few = h }
 
-  module _ (other : l .kind ≡ RESULT → ⊥) where
+  module _ (below : l .kind < OPEN) where
     pub spare-lent : count ≡ KEPT → Lends l cells count cells count
-    spare-lent h = record { keeps = λ g xs k. rw (driver-lends l xs g other) (keeps-spare k (answerIn l) h); few = omega arith }
+    spare-lent h = record { keeps = λ xs k. rw (driver-below l below) (keeps-spare k (answerIn l) h); few = omega arith }
 
     pub more-lent : count < KEPT → Lends l cells count (set (set cells (2 * count) (l .third)) (2 * count + 1) (valueIn l)) (count + 1)
-    more-lent h = record { keeps = λ g xs k. rw (driver-lends l xs g other) (keeps-more k (l .third) (valueIn l) h); few = omega arith }
+    more-lent h = record { keeps = λ xs k. rw (driver-below l below) (keeps-more k (l .third) (valueIn l) h); few = omega arith }

@@ -16,7 +16,7 @@ use Rattle.trace.specs.declared.Reading.{Reading}
 use Rattle.trace.specs.declared.Reading.the-variants.{Good}
 use Rattle.trace.proofs.Cases.{by-test}
 use Rattle.trace.proofs.Scanned.{Scanned}
-use Rattle.replay_answers.specs.Lending.{isDriver, isResult, isCall, answerIn, passed, Passed}
+use Rattle.replay_answers.specs.Lending.{isDriver, isPassedOver, isCall, answerIn, passed, Passed}
 use Rattle.replay_answers.specs.Promises.{Room, Keeps, lentBy, Lends, ahead, feeds, Calls, Fed, Took, Gathers}
 use Rattle.replay_answers.specs.declared.Gathered.{Gathered}
 use Rattle.replay_answers.specs.declared.Stop.{Stop}
@@ -28,7 +28,7 @@ gathered i p n k s = record { at = i; partial = p; line = n; count = k; stop = s
 -- a line that is no call: it lends its answer or is passed over
 pub passed-on : (l : Line) (xs : List ℕ) (n : ℕ) (ls : List Reading) → isCall l ≡ false → passed xs n (Good l ∷ ls) ≡ passed (lentBy l xs) (n + 1) ls
 unfolding isCall
-passed-on l xs n ls = go (isDriver l) (isResult l) (xs ++ answerIn l) (record { answers = xs; number = n; rest = Good l ∷ ls })
+passed-on l xs n ls = go (isDriver l) (isPassedOver l) (xs ++ answerIn l) (record { answers = xs; number = n; rest = Good l ∷ ls })
   where
     go : (d r : Bool) (ys : List ℕ) (z : Passed) → (not d && not r) ≡ false
         → cond d (passed ys (n + 1) ls) (cond r (passed xs (n + 1) ls) z) ≡ passed (cond d ys xs) (n + 1) ls
@@ -137,7 +137,7 @@ module _ {p₀ : Partial} {n₀ : ℕ} {chunk : List ℕ} {at : ℕ} {cells₀ :
                 let t = s .takes xs k in
                 record {
                   answers = lentBy l (t .answers);
-                  keeps = w .keeps g (t .answers) (t .keeps);
+                  keeps = w .keeps (t .answers) (t .keeps);
                   same = λ m. t .same m ∙ line-ends el (t .answers) m ∙ passed-on l (t .answers) n (linesFrom fresh (drop (r .at) chunk ++ m)) g;
                 };
           }

@@ -14,11 +14,12 @@ use Rattle.trace.specs.declared.Reading.the-variants.{Good, Malformed}
 abbrev pub isDriver : Line → Bool
 isDriver l = leb (l .kind) lastDriver
 
-abbrev pub isResult : Line → Bool
-isResult l = eqb (l .kind) RESULT
+-- a result, or a small buffer's line between calls: every kind from `result` on
+abbrev pub isPassedOver : Line → Bool
+isPassedOver l = leb RESULT (l .kind)
 
 unfoldable pub isCall : Line → Bool
-isCall l = not (isDriver l) && not (isResult l)
+isCall l = not (isDriver l) && not (isPassedOver l)
 
 -- A driver line lends its code, and as value the base or the handle, whether the event is complete, or 0.
 unfoldable pub valueIn : Line → ℕ
@@ -40,4 +41,4 @@ passed xs n [] = record { answers = xs; number = n; rest = [] }
 passed xs n (Malformed ∷ ls) = record { answers = xs; number = n; rest = Malformed ∷ ls }
 passed xs n (Good l ∷ ls) =
     cond (isDriver l) (passed (xs ++ answerIn l) (n + 1) ls)
-    (cond (isResult l) (passed xs (n + 1) ls) (record { answers = xs; number = n; rest = Good l ∷ ls }))
+    (cond (isPassedOver l) (passed xs (n + 1) ls) (record { answers = xs; number = n; rest = Good l ∷ ls }))

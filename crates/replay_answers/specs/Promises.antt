@@ -31,12 +31,12 @@ pub record Keeps (cells : List ℕ) (count : ℕ) (xs : List ℕ) : Type 0 where
   pub few : count ≤ KEPT
   pub front : take (2 * count) cells ≡ take (2 * KEPT) xs
 
--- A driver line adds its answer to those that are lent, a result line none.
+-- A driver line adds its answer to those that are lent, a line that is passed over none.
 abbrev pub lentBy : Line → List ℕ → List ℕ
 lentBy l xs = cond (isDriver l) (xs ++ answerIn l) xs
 
 pub record Lends (l : Line) (cells : List ℕ) (count : ℕ) (cells′ : List ℕ) (count′ : ℕ) : Type 0 where
-  pub keeps : isCall l ≡ false → (xs : List ℕ) → Keeps cells count xs → Keeps cells′ count′ (lentBy l xs)
+  pub keeps : (xs : List ℕ) → Keeps cells count xs → Keeps cells′ count′ (lentBy l xs)
   pub few : count′ ≤ KEPT
 
 -- what is still to be read, with the line that stopped it in front
@@ -51,7 +51,7 @@ feeds More = 0
 feeds (Call c) = 1
 feeds Malformed = 1
 
--- a line that stopped it is neither the driver's nor a result
+-- a line that stopped it is a call: neither the driver's nor passed over
 abbrev pub Calls : Stop → Type 0
 Calls More = Unit {0}
 Calls (Call c) = isCall c ≡ true

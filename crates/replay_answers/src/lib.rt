@@ -1,14 +1,14 @@
-// The lines of a trace up to the next call: driver lines lend their answers to the call before them, result lines are passed over.
+// The lines of a trace up to the next call: driver lines lend their answers to the call before them; results, and the lines of small buffers, are passed over.
 ghost use mathlib.Core.Path.{_≡_};
 ghost use Prim.Native.Nat.{_+_, _-_, _<_, _≤_, _^_};
 ghost use lib.ListN.{length};
-ghost use Rattle.replay_answers.specs.Lending.{isCall, valueIn};
+ghost use Rattle.replay_answers.specs.Lending.{isPassedOver, isCall, valueIn};
 ghost use Rattle.replay_answers.specs.Promises.{Room, Lends, Gathers};
 use trace::Line;
 use trace::Partial;
 use trace::Reading;
 
-// Why no more lines are gathered: the chunk is read; a line that is neither the driver's nor a result; a malformed line.
+// Why no more lines are gathered: the chunk is read; a call; a malformed line.
 pub enum Stop {
     More,
     Call(Line),
@@ -27,13 +27,20 @@ pub struct Gathered {
 // Answers that are kept of a call: it can take no more than its log has records.
 pub const KEPT: usize = 2048;
 
+// A result, or a small buffer's line between calls.
+fn is_passed_over(l: Line) -> bool
+    ensures { λ r. ⌜ r ≡ isPassedOver l ⌝ }
+{
+    l.kind >= Line::RESULT
+}
+
 fn is_call(l: Line) -> bool
     ensures { λ r. ⌜ r ≡ isCall l ⌝ }
 {
     if l.kind < Line::OPEN {
         return false;
     }
-    l.kind != Line::RESULT
+    !is_passed_over(l)
 }
 
 // docs/RULES.md 7.1: the value that a driver line lends.
@@ -49,12 +56,12 @@ fn value_in(l: Line) -> u64
     }
 }
 
-// The answer of a driver line after `count` others; a result line has none. How many are then kept.
+// The answer of a driver line after `count` others; what is passed over has none. How many are then kept.
 fn lend(l: Line, answers: &mut [u64], count: usize) -> usize
     requires { ⌜ Room (now answers) count ⌝ }
     ensures { λ r. ⌜ Lends l (now (answers .entry)) count (now (answers .exit)) r ⌝ }
 {
-    if l.kind == Line::RESULT {
+    if l.kind >= Line::OPEN {
         return count;
     }
     if count == KEPT {

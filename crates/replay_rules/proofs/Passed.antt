@@ -6,7 +6,7 @@ use Prim.Native.Nat.{ℕ, _+_}
 use Rattle.trace.specs.declared.Reading.{Reading}
 use Rattle.trace.specs.declared.Reading.the-variants.{Good, Malformed}
 use Rattle.tables.specs.declared.Pool.{Pool}
-use Rattle.replay_answers.specs.Lending.{Passed, passed, isDriver, isResult, answerIn}
+use Rattle.replay_answers.specs.Lending.{Passed, passed, isDriver, isPassedOver, answerIn}
 use Rattle.replay_rules.specs.Replay.{Waiting, replayFrom}
 
 -- the waiting call with other answers
@@ -21,9 +21,9 @@ module _ (show : Pool → List ℕ) (p : Pool) (w : Waiting) where
   pub replay-passed : (xs : List ℕ) (n : ℕ) (ls : List Reading) → replayFrom show p (lent w xs) n ls ≡ replayPassed show p w (passed xs n ls)
   replay-passed xs n [] = refl
   replay-passed xs n (Malformed ∷ ls) = refl
-  replay-passed xs n (Good l ∷ ls) = go (isDriver l) (isResult l) refl refl (replay-passed (xs ++ answerIn l) (n + 1) ls) (replay-passed xs (n + 1) ls)
+  replay-passed xs n (Good l ∷ ls) = go (isDriver l) (isPassedOver l) refl refl (replay-passed (xs ++ answerIn l) (n + 1) ls) (replay-passed xs (n + 1) ls)
     where
-      go : (d r : Bool) → isDriver l ≡ d → isResult l ≡ r
+      go : (d r : Bool) → isDriver l ≡ d → isPassedOver l ≡ r
           → replayFrom show p (lent w (xs ++ answerIn l)) (n + 1) ls ≡ replayPassed show p w (passed (xs ++ answerIn l) (n + 1) ls)
           → replayFrom show p (lent w xs) (n + 1) ls ≡ replayPassed show p w (passed xs (n + 1) ls)
           → replayFrom show p (lent w xs) n (Good l ∷ ls) ≡ replayPassed show p w (passed xs n (Good l ∷ ls))

@@ -14,7 +14,7 @@ use Rattle.trace.specs.Lines.{linesOf}
 use Rattle.trace.specs.declared.Line.{Line}
 use Rattle.trace.specs.declared.Reading.{Reading}
 use Rattle.trace.specs.declared.Reading.the-variants.{Good, Malformed}
-use Rattle.replay_answers.specs.Lending.{isDriver, isResult, answerIn}
+use Rattle.replay_answers.specs.Lending.{isDriver, isPassedOver, answerIn}
 use Rattle.replay_lines.specs.Records.{printedAll}
 use Rattle.replay_lines.specs.Traced.{isOpen, callOf, callLine, resultOf}
 
@@ -53,7 +53,7 @@ replayFrom show p w n [] = ran show p w (λ q. [])
 replayFrom show p w n (Malformed ∷ ls) = badLine n
 replayFrom show p w n (Good l ∷ ls) =
     cond (isDriver l) (replayFrom show p (lends w l) (n + 1) ls)
-    (cond (isResult l) (replayFrom show p w (n + 1) ls)
+    (cond (isPassedOver l) (replayFrom show p w (n + 1) ls)
     (cond (isOpen l) (badLine n) (ran show p w (λ q. replayFrom show q (waits n l) (n + 1) ls))))
 
 -- the first line must be an open

@@ -14,7 +14,7 @@ use Rattle.trace.specs.Machine.{fresh}
 use Rattle.trace.specs.declared.Line.{Line}
 use Rattle.trace.specs.declared.Reading.{Reading}
 use Rattle.trace.specs.declared.Reading.the-variants.{Good}
-use Rattle.replay_answers.specs.Lending.{isDriver, isResult, isCall}
+use Rattle.replay_answers.specs.Lending.{isDriver, isPassedOver, isCall}
 use Rattle.replay_answers.specs.Promises.{Keeps, ahead, feeds, Gathers}
 use Rattle.replay_answers.specs.declared.Gathered.{Gathered}
 use Rattle.replay_answers.specs.declared.Stop.{Stop}
@@ -33,8 +33,8 @@ at-call : (l : Line) → isCall l ≡ true → (show : Pool → List ℕ) (p : P
     → replayFrom show p (waitingOf s xs) n (Good l ∷ ls) ≡ cond (isOpen l) (badLine n) (ran show p (waitingOf s xs) (λ q. replayFrom show q (waits n l) (n + 1) ls))
 unfolding isCall
 at-call l e show p s xs n ls =
-    let b = both (not (isDriver l)) (not (isResult l)) e in
-    simp (not-true (isDriver l) (b .0), not-true (isResult l) (b .1))
+    let b = both (not (isDriver l)) (not (isPassedOver l)) e in
+    simp (not-true (isDriver l) (b .0), not-true (isPassedOver l) (b .1))
 
 pub counted : (s : Place) {chunk : List ℕ} {at : ℕ} {cells cells′ : List ℕ} {g : Gathered} → Gathers (s .partial) (s .line) chunk at cells (s .count) cells′ g
     → {c : Stop} → g .stop ≡ c → feeds c + (g .line + at) ≤ s .line + g .at

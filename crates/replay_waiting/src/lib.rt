@@ -156,7 +156,7 @@ fn begin(s: Place, chunk: &[u8], at: usize, out: &mut [u8]) -> Advanced
     }
 }
 
-// A line that is neither the driver's nor a result: the waiting call is due, and this one waits.
+// A call line: the waiting call is due, and this one waits.
 fn meet(l: Line, at: usize, line: u64, count: usize, out: &mut [u8]) -> Advanced
     requires { ⌜ (longestLine ≤ length (now out)) × (line + 1 < 2 ^ 64) ⌝ }
     ensures { λ r. ⌜ Meets l at line count (now (out .entry)) (now (out .exit)) r ⌝ }

@@ -21,7 +21,7 @@ length-noted true t i v = length-set t i v
 length-noted false t i v = refl
 
 module _ (c : Counts) (t : Tables) (k : Call) (l : Line) (need : Countable c t) (a f : ℕ)
-    (e : a ≡ answerPlaceOf (said (l .kind)) k (l .third)) (g : f ≡ failedBy (said (l .kind)) (l .third)) where
+    (e : a ≡ answerPlaceOf (said (l .kind)) k (l .third)) (g : f ≡ failedBy (said (l .kind)) (l .kind) (l .third)) where
   -- the places lie in the tables, and have room for one more
   pub in-answers : a < length (t .answers)
   in-answers = omega (arith, answer-fits (said (l .kind)) k (l .third), need .fits .answers)
@@ -30,7 +30,7 @@ module _ (c : Counts) (t : Tables) (k : Call) (l : Line) (need : Countable c t) 
   in-firsts = omega (arith, answer-fits (said (l .kind)) k (l .third), need .fits .firsts)
 
   pub in-failures : f < length (t .failures)
-  in-failures = omega (arith, failure-fits (said (l .kind)) (l .third), need .fits .failures)
+  in-failures = omega (arith, failure-fits (l .kind) (l .third), need .fits .failures)
 
   pub one-answer : getD (t .answers) a 0 + 1 < 2 ^ 64
   one-answer = omega (arith, need .fits .fewAnswers a, need .counted)

@@ -76,7 +76,7 @@ module _ (k : ℕ) (b : Bool) (a : Asked) (l : Line) (line : ℕ) (hs : List Han
                                     λ q h. absurd (omega arith),
                                     (
                                       λ q h. absurd (omega arith),
-                                      (λ q h. absurd (omega arith), λ m r q h. absurd (omega arith)),
+                                      (λ q h. absurd (omega arith), (λ q h. absurd (omega arith), (λ q h. absurd (omega arith), λ m r q h. absurd (omega arith)))),
                                     ),
                                   ),
                                 ),
@@ -131,7 +131,7 @@ module _ (k : ℕ) (b : Bool) (a : Asked) (l : Line) (line : ℕ) (hs : List Han
                                       λ h q. refl,
                                       (
                                         λ h q. absurd (q refl),
-                                        λ m r h q. refl,
+                                        (λ h q. refl, (λ h q. refl, λ m r h q. refl)),
                                       ),
                                     ),
                                   ),

@@ -14,7 +14,7 @@ use Rattle.judge_rules.specs.Meaning.{Buffer, live}
 use Rattle.judge_rules.specs.declared.Call.{Call}
 use Rattle.judge_rules.specs.declared.Call.the-variants.{Open, Malloc, Free, Close}
 use Rattle.judge_rules.specs.declared.Said.{Said}
-use Rattle.judge_rules.specs.declared.Said.the-variants.{Record, Call as Calls, Result, Unknown}
+use Rattle.judge_rules.specs.declared.Said.the-variants.{Record, Call as Calls, Result, Aside, Unknown}
 use Rattle.judge_rules.proofs.PageLaws.{filter-map}
 use Rattle.summary_counts.specs.HandOvers.{HandOver, handOvers}
 
@@ -49,6 +49,7 @@ same-buffers (l ∷ h) = by (same-buffers h) (said (l .kind)) refl (eqb (l .thir
     by same (Record w) e b f Free g = rw (e, g) same
     by same (Record w) e b f Close g = rw (e, g) refl
     by same (Calls d) e b f c g = rw e same
+    by same Aside e b f c g = rw e same
     by same Unknown e b f c g = rw e same
 
 length-map : {A B : Type 0} (f : A → B) (l : List A) → length (map f l) ≡ length l

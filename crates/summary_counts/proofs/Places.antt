@@ -1,35 +1,24 @@
 -- The places of a line, from its kind and its third number.
-use mathlib.Core.Path.{_≡_, refl, subst}
-use mathlib.Core.Bool.{Bool, true, false, cond}
-use mathlib.Core.Logic.{_⊎_, inl, inr}
+use mathlib.Core.Path.{_≡_, refl, ap, sym, subst, _∙_}
+use mathlib.Core.Bool.{Bool, true, false, cond, _||_}
+use mathlib.Core.Logic.{_⊎_, inl, inr, ⊎-elim}
 use mathlib.Core.List.{List, [], _∷_}
 use Prim.Native.Nat.{ℕ, zero, suc, _+_, _*_, _≤_, _<_}
 use native.Mathlib.Omega.{arith}
-use borrow.Author.Tests.{lt-ltb, le-ltb, eq-eqb, ne-eqb}
-use lib.Dec.{eqb}
+use borrow.Author.Tests.{lt-ltb, le-ltb, lt-leb, le-leb, eqb-true, eq-eqb, ne-eqb}
+use lib.Dec.{leb, eqb}
 use lib.ListN.{getD}
 use Rattle.lists.proofs.Tests.{cases-lt}
-use Rattle.words.specs.Words.{number}
-use Rattle.words.specs.declared.Word.{Word}
-use Rattle.words.specs.declared.Word.the-variants.{
-  Reserve,
-  Create,
-  Map,
-  Access,
-  Unmap,
-  Release,
-  Record as RecordEvent,
-  Asked as AskedFor,
-  Wait,
-  Sync,
-  Giveback,
-}
+use Rattle.trace.specs.Form.{lastKind}
+use Rattle.trace.specs.Kinds.{lastDriver, SMALL}
+use Rattle.trace.proofs.Words.{each-kind}
 use Rattle.judge_rules.specs.Said.{said, kinds}
 use Rattle.judge_rules.specs.SoFar.{place}
 use Rattle.judge_rules.specs.declared.Call.{Call}
 use Rattle.judge_rules.specs.declared.Call.the-variants.{Open, Malloc, Free, Close}
 use Rattle.judge_rules.specs.declared.Said.{Said}
-use Rattle.judge_rules.specs.declared.Said.the-variants.{Record, Call as Calls, Result, Unknown}
+use Rattle.judge_rules.specs.declared.Said.the-variants.{Record, Call as Calls, Result, Aside, Unknown}
+use Rattle.judge_steps.proofs.StepsByKind.{said-none}
 use Rattle.summary_counts.specs.Counts.{perCall, noAnswer, answerPlaces, shownNumber, answerPlaceOf, failurePlaces, failedBy}
 
 -- What holds of each entry of a list of kinds, the first of number `i`, and of no kind behind them.
@@ -61,6 +50,7 @@ answer-fits Result Free n = omega (arith, shown-few n)
 answer-fits Result Close n = omega (arith, shown-few n)
 answer-fits (Record w) c n = omega arith
 answer-fits (Calls d) c n = omega arith
+answer-fits Aside c n = omega arith
 answer-fits Unknown c n = omega arith
 
 pub no-result : (k : ℕ) (c : Call) (n : ℕ) → (k ≡ 16 → ⊥) → noAnswer ≡ answerPlaceOf (said k) c n
@@ -89,7 +79,7 @@ no-result k c n d =
                           λ q. refl,
                           (
                             λ q. refl,
-                            (λ q. refl, (λ q. refl, (λ q. refl, (λ q. refl, (λ q. absurd (q refl), λ m h q. refl))))),
+                            (λ q. refl, (λ q. refl, (λ q. refl, (λ q. refl, (λ q. absurd (q refl), (λ q. refl, (λ q. refl, λ m h q. refl))))))),
                           ),
                         ),
                       ),
@@ -109,124 +99,56 @@ pub a-result : (k : ℕ) (c : Call) (n r : ℕ) → k ≡ 16 → r ≡ shownNumb
 unfolding said
 a-result k c n r e f d g p h = rw (e, g, ← f) h
 
-number-few : (w : Word) → number w < failurePlaces
-number-few Reserve = omega arith
-number-few Create = omega arith
-number-few Map = omega arith
-number-few Access = omega arith
-number-few Unmap = omega arith
-number-few Release = omega arith
-number-few RecordEvent = omega arith
-number-few AskedFor = omega arith
-number-few Wait = omega arith
-number-few Sync = omega arith
-number-few Giveback = omega arith
+cond-most : (b : Bool) (k : ℕ) → cond b 0 k ≤ k
+cond-most true k = omega arith
+cond-most false k = omega arith
 
-pub failure-fits : (w : Said) (code : ℕ) → failedBy w code < failurePlaces
-failure-fits (Record w) code = go (eqb code 0)
-  where
-    go : (b : Bool) → cond b 0 (number w) < failurePlaces
-    go true = omega arith
-    go false = number-few w
-failure-fits (Calls d) code = omega arith
-failure-fits Result code = omega arith
-failure-fits Unknown code = omega arith
+-- no line stands above its kind, and none of an unknown kind above 0
+failed-most : (w : Said) (k code : ℕ) → failedBy w k code ≤ k
+failed-most (Record w) k code = cond-most (eqb code 0) k
+failed-most Aside k code = cond-most (eqb code 0) k
+failed-most (Calls d) k code = omega arith
+failed-most Result k code = omega arith
+failed-most Unknown k code = omega arith
 
-pub not-failed : (w : Said) (code : ℕ) → code ≡ 0 → 0 ≡ failedBy w code
-not-failed (Record w) code e = rw (eq-eqb code 0 e)
-not-failed (Calls d) code e = refl
-not-failed Result code e = refl
-not-failed Unknown code e = refl
+pub failed-beyond : (k code : ℕ) → lastKind < k → 0 ≡ failedBy (said k) k code
+failed-beyond k code h = rw (← said-none k (inr (omega arith))) refl
 
+pub failure-fits : (k code : ℕ) → failedBy (said k) k code < failurePlaces
+failure-fits k code =
+    ⊎-elim (λ h. omega (arith, failed-most (said k) k code)) (λ h. omega (arith, failed-beyond k code (omega arith))) (cases-lt k failurePlaces)
+
+pub not-failed : (w : Said) (k code : ℕ) → code ≡ 0 → 0 ≡ failedBy w k code
+not-failed (Record w) k code e = rw (eq-eqb code 0 e)
+not-failed Aside k code e = rw (eq-eqb code 0 e)
+not-failed (Calls d) k code e = refl
+not-failed Result k code e = refl
+not-failed Unknown k code e = refl
+
+-- Of a code above 0, whichever it is, the place is computed for every kind at once.
 module _ (code : ℕ) (d : code ≡ 0 → ⊥) where
-  abbrev Failed : ℕ → Said → Type 0
-  Failed k w = k ≤ 11 → k ≡ failedBy w code
+  as-one : (w : Said) (k : ℕ) → failedBy w k 1 ≡ failedBy w k code
+  as-one (Record w) k = rw (ne-eqb code 0 d)
+  as-one Aside k = rw (ne-eqb code 0 d)
+  as-one (Calls c) k = refl
+  as-one Result k = refl
+  as-one Unknown k = refl
 
-  here : (w : Word) → number w ≤ 11 → number w ≡ failedBy (Record w) code
-  here w h = rw (ne-eqb code 0 d)
+  abbrev driven : ℕ → Bool
+  driven k = leb k lastDriver || leb SMALL k
 
-  far : (k : ℕ) (w : Said) → 12 ≤ k → Failed k w
-  far k w q h = absurd (omega arith)
+  by-kind : (k : ℕ) → k ≤ lastKind → (b : Bool) → driven k ≡ b → cond b k 0 ≡ failedBy (said k) k code
+  unfolding said
+  by-kind k h b e =
+      ap (λ t. cond t k 0) (sym e)
+      ∙ eqb-true (cond (driven k) k 0) (failedBy (said k) k 1) (each-kind (λ (k : ℕ). eqb (cond (driven k) k 0) (failedBy (said k) k 1)) refl k h)
+      ∙ as-one (said k) k
 
-  pub failed-kind : (k : ℕ) → k ≤ 11 → k ≡ failedBy (said k) code
-  failed-kind =
-      of-kinds Failed (
-        λ h. refl,
-        (
-          here Reserve,
-          (
-            here Create,
-            (
-              here Map,
-              (
-                here Access,
-                (
-                  here Unmap,
-                  (
-                    here Release,
-                    (
-                      here RecordEvent,
-                      (
-                        here AskedFor,
-                        (
-                          here Wait,
-                          (
-                            here Sync,
-                            (
-                              here Giveback,
-                              (
-                                far 12 (Calls Open) (omega arith),
-                                (
-                                  far 13 (Calls Malloc) (omega arith),
-                                  (
-                                    far 14 (Calls Free) (omega arith),
-                                    (far 15 (Calls Close) (omega arith), (far 16 Result (omega arith), λ k q. far k Unknown (omega arith))),
-                                  ),
-                                ),
-                              ),
-                            ),
-                          ),
-                        ),
-                      ),
-                    ),
-                  ),
-                ),
-              ),
-            ),
-          ),
-        ),
-      )
+  pub failed-record : (k : ℕ) → k ≤ lastDriver → k ≡ failedBy (said k) k code
+  failed-record k h = by-kind k (omega arith) true (rw (le-leb k lastDriver h))
 
-  pub failed-none : (k : ℕ) → 11 < k → 0 ≡ failedBy (said k) code
-  failed-none =
-      of-kinds (λ k w. 11 < k → 0 ≡ failedBy w code) (
-        λ h. absurd (omega arith),
-        (
-          λ h. absurd (omega arith),
-          (
-            λ h. absurd (omega arith),
-            (
-              λ h. absurd (omega arith),
-              (
-                λ h. absurd (omega arith),
-                (
-                  λ h. absurd (omega arith),
-                  (
-                    λ h. absurd (omega arith),
-                    (
-                      λ h. absurd (omega arith),
-                      (
-                        λ h. absurd (omega arith),
-                        (
-                          λ h. absurd (omega arith),
-                          (λ h. absurd (omega arith), (λ h. absurd (omega arith), (λ h. refl, (λ h. refl, (λ h. refl, (λ h. refl, (λ h. refl, λ k q h. refl))))))),
-                        ),
-                      ),
-                    ),
-                  ),
-                ),
-              ),
-            ),
-          ),
-        ),
-      )
+  pub failed-none : (k : ℕ) → lastDriver < k → k < SMALL → 0 ≡ failedBy (said k) k code
+  failed-none k h q = by-kind k (omega arith) false (rw (lt-leb k lastDriver h, lt-leb SMALL k q))
+
+  pub failed-aside : (k : ℕ) → lastDriver < k → SMALL ≤ k → k ≤ lastKind → k ≡ failedBy (said k) k code
+  failed-aside k h q r = by-kind k r true (rw (lt-leb k lastDriver h, le-leb SMALL k q))

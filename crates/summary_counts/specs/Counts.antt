@@ -6,7 +6,6 @@ use Prim.Native.Nat.{ℕ, _+_, _*_}
 use lib.Dec.{ltb, leb, eqb}
 use lib.ListN.{length}
 use Rattle.lists.specs.Walks.{sum}
-use Rattle.words.specs.Words.{number}
 use Rattle.trace.specs.declared.Line.{Line}
 use Rattle.judge_rules.specs.Said.{said}
 use Rattle.judge_rules.specs.Rules.{Page, isUnder}
@@ -14,7 +13,7 @@ use Rattle.judge_rules.specs.SoFar.{place, pageSize, call, mapped}
 use Rattle.judge_rules.specs.Meaning.{live}
 use Rattle.judge_rules.specs.declared.Call.{Call}
 use Rattle.judge_rules.specs.declared.Said.{Said}
-use Rattle.judge_rules.specs.declared.Said.the-variants.{Record, Call as Calls, Result, Unknown}
+use Rattle.judge_rules.specs.declared.Said.the-variants.{Record, Call as Calls, Result, Aside, Unknown}
 use Rattle.summary_counts.specs.declared.Peak.{Peak}
 
 -- A table counts every line at one place, by a function of the line and of those before it. How many lines stand at the place `n`;
@@ -51,6 +50,7 @@ abbrev pub answerPlaceOf : Said → Call → ℕ → ℕ
 answerPlaceOf Result c n = perCall * place c + shownNumber n
 answerPlaceOf (Record w) c n = noAnswer
 answerPlaceOf (Calls d) c n = noAnswer
+answerPlaceOf Aside c n = noAnswer
 answerPlaceOf Unknown c n = noAnswer
 
 abbrev pub answerPlace : Line → List Line → ℕ
@@ -63,22 +63,23 @@ answered c n h = counted answerPlace (perCall * place c + n) h
 abbrev pub firstAnswered : Call → ℕ → List Line → ℕ
 firstAnswered c n h = firstAt answerPlace (perCall * place c + n) h
 
--- Failed driver lines: a record with a code above 0 stands at its word's number, every other line at 0.
+-- Failed driver lines: a record or a small buffer's line with a code above 0 stands at its kind, every other line at 0.
 abbrev pub failurePlaces : ℕ
-failurePlaces = 12
+failurePlaces = 19
 
-abbrev pub failedBy : Said → ℕ → ℕ
-failedBy (Record w) code = cond (eqb code 0) 0 (number w)
-failedBy (Calls c) code = 0
-failedBy Result code = 0
-failedBy Unknown code = 0
+abbrev pub failedBy : Said → ℕ → ℕ → ℕ
+failedBy (Record w) kind code = cond (eqb code 0) 0 kind
+failedBy Aside kind code = cond (eqb code 0) 0 kind
+failedBy (Calls c) kind code = 0
+failedBy Result kind code = 0
+failedBy Unknown kind code = 0
 
 abbrev pub failurePlace : Line → List Line → ℕ
-failurePlace l before = failedBy (said (l .kind)) (l .third)
+failurePlace l before = failedBy (said (l .kind)) (l .kind) (l .third)
 
--- how many records of the word with this number have failed
+-- how many lines of this kind have failed
 abbrev pub failures : ℕ → List Line → ℕ
-failures w h = counted failurePlace w h
+failures kind h = counted failurePlace kind h
 
 -- Bytes. A sum of sizes can pass the largest u64 where a trace lies about them, and is then that.
 abbrev pub mostBytes : ℕ

@@ -14,7 +14,7 @@ use Rattle.judge_rules.specs.declared.Asked.{Asked}
 use Rattle.judge_rules.specs.declared.Call.{Call}
 use Rattle.judge_rules.specs.declared.Call.the-variants.{Open, Malloc, Free, Close}
 use Rattle.judge_rules.specs.declared.Said.{Said}
-use Rattle.judge_rules.specs.declared.Said.the-variants.{Record, Call as Calls, Result, Unknown}
+use Rattle.judge_rules.specs.declared.Said.the-variants.{Record, Call as Calls, Result, Aside, Unknown}
 use Rattle.judge_tables.specs.Rows.{rows}
 use Rattle.judge_tables.specs.declared.Row.{Row}
 
@@ -43,6 +43,7 @@ handedBy Result true a l n hs = answeredBy (a .call) a l n hs
 handedBy Result false a l n hs = hs
 handedBy (Record w) done a l n hs = endedBy (a .call) hs
 handedBy (Calls c) done a l n hs = hs
+handedBy Aside done a l n hs = hs
 handedBy Unknown done a l n hs = hs
 
 abbrev pub handOvers : List Line → List HandOver

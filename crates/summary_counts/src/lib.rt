@@ -68,5 +68,5 @@ impl Counts {
     // How many numbers the slices have that are lent for the tables.
     pub const ANSWER_PLACES: usize = 85;
 
-    pub const FAILURE_PLACES: usize = 12;
+    pub const FAILURE_PLACES: usize = 19;
 }

@@ -38,17 +38,24 @@ fn answer_place(kind: u64, call: Call, number: u64) -> usize
     }
 }
 
-// The place of a line in the table of failures: the numbers of the driver's words are the kinds of their lines.
+// The place of a line in the table of failures: the driver's words come first among the kinds, those of small buffers last.
 fn failure_place(kind: u64, code: u64) -> usize
-    ensures { λ r. ⌜ r ≡ failedBy (said kind) code ⌝ }
+    ensures { λ r. ⌜ r ≡ failedBy (said kind) kind code ⌝ }
 {
+    let place = kind as usize;
     if code == 0 {
         return 0;
     }
-    if Line::GIVEBACK < kind {
+    if Line::LAST < kind {
         return 0;
     }
-    kind as usize
+    if kind <= Line::GIVEBACK {
+        return place;
+    }
+    if kind < Line::SMALL {
+        return 0;
+    }
+    place
 }
 
 // One more at a place.

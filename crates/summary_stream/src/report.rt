@@ -54,19 +54,22 @@ fn put_meaning(out: &mut [u8], at: usize, number: usize) -> usize {
     }
 }
 
-fn put_word(out: &mut [u8], at: usize, word: usize) -> usize {
-    match word {
-        1 => put(out, at, b"  reserve "),
-        2 => put(out, at, b"  create  "),
-        3 => put(out, at, b"  map     "),
-        4 => put(out, at, b"  access  "),
-        5 => put(out, at, b"  unmap   "),
-        6 => put(out, at, b"  release "),
-        7 => put(out, at, b"  record  "),
-        8 => put(out, at, b"  asked   "),
-        9 => put(out, at, b"  wait    "),
-        10 => put(out, at, b"  sync    "),
-        _ => put(out, at, b"  giveback"),
+// The word of a kind at which a line can fail.
+fn put_word(out: &mut [u8], at: usize, kind: usize) -> usize {
+    match kind {
+        1 => put(out, at, b"  reserve  "),
+        2 => put(out, at, b"  create   "),
+        3 => put(out, at, b"  map      "),
+        4 => put(out, at, b"  access   "),
+        5 => put(out, at, b"  unmap    "),
+        6 => put(out, at, b"  release  "),
+        7 => put(out, at, b"  record   "),
+        8 => put(out, at, b"  asked    "),
+        9 => put(out, at, b"  wait     "),
+        10 => put(out, at, b"  sync     "),
+        11 => put(out, at, b"  giveback "),
+        17 => put(out, at, b"  small    "),
+        _ => put(out, at, b"  dropsmall"),
     }
 }
 
@@ -109,12 +112,12 @@ fn put_answers(out: &mut [u8], at: usize, answers: &[u64], firsts: &[u64]) -> us
 }
 
 // A word, where a line of it failed.
-fn put_failure(out: &mut [u8], at: usize, word: usize, times: u64) -> usize {
+fn put_failure(out: &mut [u8], at: usize, kind: usize, times: u64) -> usize {
     if times == 0 {
         return at;
     }
-    let mut n = put_word(out, at, word);
-    n = put_number(out, n, times, 44);
+    let mut n = put_word(out, at, kind);
+    n = put_number(out, n, times, 43);
     put(out, n, b"\n")
 }
 

@@ -27,6 +27,7 @@ use Rattle.tables.specs.declared.Outcome.the-variants.{
   InvalidPointer,
   AnswersRanOut,
   BadConfiguration,
+  SmallBuffersFull,
 }
 
 abbrev pub answers : ℕ → ℕ → ℕ → Numbers
@@ -55,6 +56,7 @@ numbers Incredible = answers 15 0 0
 numbers (InvalidPointer start) = answers 16 (start .0) 0
 numbers AnswersRanOut = answers 17 0 0
 numbers BadConfiguration = answers 19 0 0
+numbers SmallBuffersFull = answers 20 0 0
 
 abbrev pub is : ℕ → Outcome → Bool
 is n o = eqb (numbers o .number) n

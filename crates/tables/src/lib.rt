@@ -257,6 +257,8 @@ pub enum Outcome {
     InvalidPointer(Address),
     AnswersRanOut,
     BadConfiguration,
+    // of the layer that takes bytes: as many small buffers as it has room for
+    SmallBuffersFull,
 }
 
 // The number of an outcome, and its two values: all that a trace, C and Rust see of it.
@@ -305,6 +307,7 @@ impl Outcome {
             Outcome::InvalidPointer(start) => Numbers::of(16, start.0, 0),
             Outcome::AnswersRanOut => Numbers::of(17, 0, 0),
             Outcome::BadConfiguration => Numbers::of(19, 0, 0),
+            Outcome::SmallBuffersFull => Numbers::of(20, 0, 0),
         }
     }
 }

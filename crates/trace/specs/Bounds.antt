@@ -3,7 +3,7 @@ use Prim.Native.Nat.{ℕ, _+_, _*_}
 
 -- of a trace's words, and of those that the programs print on their own
 abbrev pub longestWord : ℕ
-longestWord = 8
+longestWord = 9
 
 -- a tab and the twenty digits of 2^64 - 1
 abbrev pub longestField : ℕ

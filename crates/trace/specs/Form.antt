@@ -16,7 +16,8 @@ abbrev pub ascii : String → List ℕ
 ascii empty = []
 ascii (c then s) = code c ∷ ascii s
 
--- the words that a line may begin with: the driver's in the order of the log's kinds, the calls, `result`
+-- the words that a line may begin with: the driver's in the order of the log's kinds, the calls, `result`, and those of
+-- small buffers
 abbrev pub words : List (List ℕ)
 words =
     ascii "reserve"
@@ -35,6 +36,8 @@ words =
     ∷ ascii "free"
     ∷ ascii "close"
     ∷ ascii "result"
+    ∷ ascii "small"
+    ∷ ascii "dropsmall"
     ∷ []
 
 -- the word of a kind, from 1; other numbers have none

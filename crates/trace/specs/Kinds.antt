@@ -25,6 +25,12 @@ CLOSE = 15
 abbrev pub RESULT : ℕ
 RESULT = 16
 
+abbrev pub SMALL : ℕ
+SMALL = 17
+
+abbrev pub DROPSMALL : ℕ
+DROPSMALL = 18
+
 -- a record of the log
 abbrev pub ofRecord : Record → Line
 ofRecord r = line (r .kind) (r .first) (r .second) (r .code)

@@ -82,6 +82,11 @@ fn kind_of(high: u64, low: u64) -> u64
             0x66726565 => Line::FREE,
             0x636c6f7365 => Line::CLOSE,
             0x726573756c74 => Line::RESULT,
+            0x736d616c6c => Line::SMALL,
+            _ => 0,
+        },
+        0x64 => match low {
+            0x726f70736d616c6c => Line::DROPSMALL,
             _ => 0,
         },
         _ => 0,
@@ -338,9 +343,11 @@ const WORDS: [[u8; 16]; ROWS] = [
     *b"free............",
     *b"close...........",
     *b"result..........",
+    *b"small...........",
+    *b"dropsmall.......",
 ];
 
-const SIZES: [usize; ROWS] = [0, 7, 6, 3, 6, 5, 7, 6, 5, 4, 4, 8, 4, 6, 4, 5, 6];
+const SIZES: [usize; ROWS] = [0, 7, 6, 3, 6, 5, 7, 6, 5, 4, 4, 8, 4, 6, 4, 5, 6, 5, 9];
 
 const ROWS: usize = Line::LAST as usize + 1;
 
@@ -389,7 +396,12 @@ impl Line {
 
     pub const RESULT: u64 = 16;
 
-    pub const LAST: u64 = Line::RESULT;
+    // What stands between calls: a small buffer that came from the driver, or went back to it.
+    pub const SMALL: u64 = 17;
+
+    pub const DROPSMALL: u64 = 18;
+
+    pub const LAST: u64 = Line::DROPSMALL;
 
     // A whole line, without its line feed.
     pub fn read(bytes: &[u8]) -> Reading

@@ -1,6 +1,7 @@
-//! Random sessions by the package, their traces printed, and behind each the number of calls and of
-//! runs so far. finder/check/session.c prints the same by finder/pool_run.h, on the same card
-//! (finder/check/whim.h): `check` compares the two, byte for byte.
+//! Random sessions by the package, of a pool and of a manager in turn, their traces printed, and
+//! behind each the number of calls and of runs so far, and the bytes that a manager holds and held
+//! at most before its close. finder/check/session.c prints the same by finder/pool_run.h, on the
+//! same card (finder/check/whim.h): `check` compares the two, byte for byte.
 //!
 //!     cargo run --offline --quiet --example session SEEDS CALLS
 
@@ -9,7 +10,7 @@ use std::{
     io::{self, BufWriter, StdoutLock, Write},
 };
 
-use caldarimpu::{ffi, Answers, Code, Config, Happened, Pool, Record, Refusal, Word};
+use caldarimpu::{ffi, Answers, Code, Config, Happened, Manager, Pool, Record, Refusal, Word};
 
 /// splitmix64.
 fn mixed(number: u64) -> u64 {
@@ -59,7 +60,7 @@ impl Whim<'_> {
     }
 
     /// Bases are aligned mostly and free mostly; handles are new mostly, and some are those that
-    /// are guessed.
+    /// are guessed; so are pointers, and some are low enough for a root.
     fn value(&self, wanted: Record, choices: &mut Choices) -> u64 {
         match wanted.word {
             Word::Reserve => {
@@ -70,6 +71,9 @@ impl Whim<'_> {
             Word::Create => choices.below(50_000),
             Word::Asked if choices.below(100) < self.complete => 1,
             Word::Asked => 2 * choices.below(2),
+            Word::Small if choices.below(60) == 0 => (1 << 63) + choices.below(2),
+            Word::Small if choices.below(60) == 0 => choices.below(2000),
+            Word::Small => 1_000_000 + 16 * choices.below(50_000),
             _ => choices.below(1000),
         }
     }
@@ -77,10 +81,13 @@ impl Whim<'_> {
 
 impl Answers for Whim<'_> {
     fn answer(&mut self, wanted: Record) -> Result<u64, Code> {
-        let kind = 1 + wanted.word as u64;
+        self.answer_on(wanted, 0)
+    }
+
+    fn answer_on(&mut self, wanted: Record, stream: u64) -> Result<u64, Code> {
         let numbers = [
             self.answered,
-            kind,
+            wanted.word.kind(),
             wanted.first,
             wanted.second,
             wanted.code,
@@ -88,6 +95,9 @@ impl Answers for Whim<'_> {
         self.answered += 1;
         let seeded = |choices, number| mixed(choices ^ number);
         let mut choices = Choices(numbers.into_iter().fold(self.seed, seeded));
+        if stream != 0 {
+            choices.0 = mixed(choices.0 ^ stream);
+        }
         match self.failure(wanted.word, &mut choices) {
             Some(code) => Err(code),
             None => Ok(self.value(wanted, &mut choices)),
@@ -157,6 +167,33 @@ impl Kind {
         }
     }
 
+    /// Of a manager: two of three are for small buffers, and sizes lie between whole pages too.
+    fn next_bytes(&self, choices: &mut Choices, manager: &ffi::Manager) -> Call {
+        let small = manager.small.entries();
+        if choices.below(3) == 0 {
+            return match self.next(choices, &manager.pool) {
+                Call::Malloc { bytes, stream } => Call::Malloc {
+                    bytes: bytes + choices.below(4),
+                    stream,
+                },
+                call => call,
+            };
+        }
+        if choices.below(20) < self.frees && !small.is_empty() {
+            let address = small[choices.below(small.len() as u64) as usize].pointer;
+            return Call::Free { address };
+        }
+        let mut bytes = match choices.below(30) {
+            0 => 0,
+            _ => 1 + choices.below(3),
+        };
+        if choices.below(60) == 0 {
+            bytes = (1 << 63) + choices.below(2);
+        }
+        let stream = choices.below(self.streams);
+        Call::Malloc { bytes, stream }
+    }
+
     /// Gives the number of calls.
     fn play(&self, card: &mut Whim, seed: u64, length: u64) -> u64 {
         let mut choices = Choices(!seed);
@@ -176,6 +213,44 @@ impl Kind {
         pool.close(card).expect("a close is always served");
         calls
     }
+
+    /// Halfway the highest counts anew.
+    fn play_bytes(&self, card: &mut Whim, seed: u64, length: u64) -> u64 {
+        let mut choices = Choices(!seed);
+        let Ok(mut manager) = Manager::open(card, self.opening(&mut choices)) else {
+            return 1;
+        };
+        let (mut left, mut calls) = (length, 2);
+        while left > 0 {
+            if left == length / 2 {
+                manager.reset_highest();
+            }
+            let refusal = match self.next_bytes(&mut choices, manager.value()) {
+                Call::Malloc { bytes, stream } => manager.malloc(card, bytes, stream).err(),
+                Call::Free { address } => manager.free(card, address).err(),
+            };
+            let stopped = refusal == Some(Refusal::PoolStopped);
+            left = if stopped { left / 2 } else { left - 1 };
+            calls += 1;
+        }
+        let (current, highest) = (manager.current(), manager.highest());
+        let small = manager.value().small.count;
+        writeln!(card.out, "bytes\t{current}\t{highest}\t{small}").expect("an output");
+        manager.close(card).expect("a close is always served");
+        calls
+    }
+}
+
+/// A card of its own for each session.
+fn card_of<'a>(seed: u64, kind: &Kind, out: &'a mut BufWriter<StdoutLock<'static>>) -> Whim<'a> {
+    Whim {
+        seed,
+        failures: [0, 2, 30][seed as usize % 3],
+        complete: kind.complete,
+        answered: 0,
+        runs: 0,
+        out,
+    }
 }
 
 fn main() {
@@ -189,15 +264,11 @@ fn main() {
     let (mut calls, mut runs) = (0, 0);
     for seed in 0..seeds {
         let kind = KINDS[seed as usize % KINDS.len()];
-        let mut card = Whim {
-            seed,
-            failures: [0, 2, 30][seed as usize % 3],
-            complete: kind.complete,
-            answered: 0,
-            runs: 0,
-            out: &mut out,
-        };
+        let mut card = card_of(seed, &kind, &mut out);
         calls += kind.play(&mut card, seed, length);
+        runs += card.runs;
+        let mut card = card_of(seed, &kind, &mut out);
+        calls += kind.play_bytes(&mut card, seed, length);
         runs += card.runs;
         writeln!(out, "session\t{seed}\t{calls}\t{runs}").expect("an output");
     }

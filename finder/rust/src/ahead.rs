@@ -9,11 +9,13 @@
 //! Guessed is that every driver call succeeds and that no event is complete. A base can't be
 //! guessed. A handle can't either, but nothing hangs on it: a page created under another handle is
 //! mapped, moved and released by that one, and all else stays. So the driver calls go on with the
-//! driver's handle in place of the guessed one, and a last run puts it into the pool.
+//! driver's handle in place of the guessed one, and a last run puts it into the pool. A small
+//! buffer's pointer is the only answer of its malloc: a second run has it.
 
 use crate::{
     driver::{make, Answer},
-    ffi::{self, Page, Reply, LOG},
+    ffi::{Page, LOG},
+    value::{Ran, Value},
     Call, Driver, Record, Word,
 };
 
@@ -45,15 +47,15 @@ impl Ahead {
     }
 
     /// Runs a call until every answer that it took is the driver's.
-    pub fn settle(&mut self, driver: &mut dyn Driver, pool: &ffi::Pool, call: Call) -> Reply {
+    pub fn settle<V: Value>(&mut self, driver: &mut dyn Driver, value: &V, call: Call) -> Ran<V> {
         self.forget();
         loop {
-            let reply = run(pool, call, &self.answers, &mut self.log);
+            let ran = value.run(call, &self.answers, &mut self.log);
             self.runs += 1;
-            self.check(reply.records);
-            let mut making = |wanted: Record| make(driver, call, wanted);
-            if self.drive(&mut making, pool.pages.entries(), reply.records) {
-                return reply;
+            self.check(ran.records);
+            let mut making = |wanted: Record| make(driver, call, value.small(), wanted);
+            if self.drive(&mut making, value.pool().pages.entries(), ran.records) {
+                return ran;
             }
         }
     }
@@ -130,24 +132,6 @@ impl Ahead {
     fn record(&self, at: usize) -> Record {
         let numbers = [0, 1, 2, 3].map(|cell| self.log[4 * at + cell]);
         Record::of_numbers(numbers).expect("libfinder.a writes the rules' words")
-    }
-}
-
-/// Runs a call once, on the answers lent.
-fn run(pool: &ffi::Pool, call: Call, answers: &[u64], log: &mut [u64]) -> Reply {
-    match call {
-        Call::Open(config) => ffi::open(
-            config.granularity,
-            config.override_size,
-            config.va_size,
-            config.initial_pages,
-            config.initial_stream,
-            answers,
-            log,
-        ),
-        Call::Malloc { bytes, stream } => ffi::malloc(pool, bytes, stream, answers, log),
-        Call::Free { address } => ffi::free(pool, address, answers, log),
-        Call::Close => ffi::close(pool, answers, log),
     }
 }
 

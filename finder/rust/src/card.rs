@@ -10,14 +10,22 @@ use crate::{driver::Answer, Answers, Code, Happened, Record, Word};
 pub struct Card {
     reserved: u64,
     created: u64,
+    /// Bytes of small buffers, each in whole lots.
+    small: u64,
     /// Events below this id are complete.
     done: u64,
     failures: BTreeMap<Word, Failure>,
     values: BTreeMap<Word, u64>,
     seen: Vec<Record>,
+    streams: Vec<u64>,
     passed_over: Vec<Record>,
     trace: String,
 }
+
+/// Small buffers start at multiples of this.
+const LOT: u64 = 256;
+/// No reservation ends behind 2^63.
+const FIRST_SMALL: u64 = (1 << 63) + LOT;
 
 #[derive(Clone, Copy)]
 struct Failure {
@@ -38,7 +46,7 @@ impl Card {
         self.failures.insert(word, Failure { after, code });
     }
 
-    /// Lets the next reserve or create that succeeds give this base or handle.
+    /// Lets the next reserve, create or small that succeeds give this base, handle or pointer.
     pub fn give(&mut self, word: Word, value: u64) {
         self.values.insert(word, value);
     }
@@ -51,6 +59,11 @@ impl Card {
     /// The driver calls so far, with their answers.
     pub fn seen(&self) -> &[Record] {
         &self.seen
+    }
+
+    /// The streams of the driver calls so far for small buffers, in order.
+    pub fn small_streams(&self) -> &[u64] {
+        &self.streams
     }
 
     /// The failures so far of which the pool said that they ended no call. It writes no line.
@@ -72,7 +85,8 @@ impl Card {
         self.failures.remove(&word).map(|failure| failure.code)
     }
 
-    /// Bases are multiples of va_size, one apart; handles count from 1.
+    /// Bases are multiples of va_size, one apart; handles count from 1; small buffers lie one behind
+    /// the other, above every base.
     fn value(&mut self, wanted: Record) -> u64 {
         let given = self.values.remove(&wanted.word);
         match wanted.word {
@@ -83,6 +97,11 @@ impl Card {
             Word::Create => {
                 self.created += 1;
                 given.unwrap_or(self.created)
+            }
+            Word::Small => {
+                let pointer = FIRST_SMALL + self.small;
+                self.small += wanted.second.next_multiple_of(LOT);
+                given.unwrap_or(pointer)
             }
             Word::Asked => u64::from(wanted.first < self.done),
             _ => 0,
@@ -98,6 +117,11 @@ impl Answers for Card {
         };
         self.seen.push(wanted.answered(Answer::of(answer)));
         answer
+    }
+
+    fn answer_on(&mut self, wanted: Record, stream: u64) -> Result<u64, Code> {
+        self.streams.push(stream);
+        self.answer(wanted)
     }
 
     fn told(&mut self, call: &Happened) {

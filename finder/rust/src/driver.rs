@@ -5,12 +5,19 @@ use std::{
     num::NonZeroU64,
 };
 
-use crate::{Call, Happened};
+use crate::{ffi::SmallBuffer, Call, Happened};
 
 /// A driver's failure. 0 is success and so is no failure.
 pub type Code = NonZeroU64;
 
-/// The driver calls that a pool makes. Each is made once, in the order of the call's log.
+/// The code of a driver that has no small buffers: the driver's own number for what is not
+/// supported.
+const NOT_SUPPORTED: Code = match Code::new(801) {
+    Some(code) => code,
+    None => unreachable!(),
+};
+
+/// The driver calls that a pool or a manager makes. Each is made once, in the order of the call's log.
 ///
 /// Addresses, handles, event ids and streams are numbers; what they stand for is the driver's to
 /// know. A map is of one page, the size that create was told.
@@ -45,6 +52,19 @@ pub trait Driver {
     /// Gives a reserved range back.
     fn giveback(&mut self, base: u64, va_size: u64) -> Result<(), Code>;
 
+    /// Makes a buffer of fewer bytes than a page has, for work on a stream, and gives its pointer.
+    /// Only a [`Manager`](crate::Manager) asks for it. A failure stops nothing. Left as it is, it
+    /// fails with code 801, not supported.
+    fn small(&mut self, _size: u64, _stream: u64) -> Result<u64, Code> {
+        Err(NOT_SUPPORTED)
+    }
+
+    /// Takes such a buffer back; the stream is the one that it was asked for on. A failure stops
+    /// nothing, and the buffer is still held. Left as it is, it fails with code 801.
+    fn drop_small(&mut self, _pointer: u64, _size: u64, _stream: u64) -> Result<(), Code> {
+        Err(NOT_SUPPORTED)
+    }
+
     /// Is told each call of the pool when it has ended: to print a trace, for instance. No driver
     /// call.
     fn happened(&mut self, _call: &Happened) {}
@@ -66,9 +86,15 @@ fn warn(failed: Record) {
 /// A driver in one function, for those that note and answer every call alike, as made-up ones do.
 /// Whatever has it is a [`Driver`].
 pub trait Answers {
-    /// Answers a driver call: a base, a handle, or 1 for an event that is complete; of any other
-    /// word the number is not looked at. A sync of the card comes as one of stream 0.
+    /// Answers a driver call: a base, a handle, a small buffer's pointer, or 1 for an event that is
+    /// complete; of any other word the number is not looked at. A sync of the card comes as one of
+    /// stream 0.
     fn answer(&mut self, wanted: Record) -> Result<u64, Code>;
+
+    /// Answers one for a small buffer of a manager, of which the record does not tell the stream.
+    fn answer_on(&mut self, wanted: Record, _stream: u64) -> Result<u64, Code> {
+        self.answer(wanted)
+    }
 
     /// As [`Driver::happened`].
     fn told(&mut self, _call: &Happened) {}
@@ -136,6 +162,15 @@ impl<T: Answers> Driver for T {
             .map(drop)
     }
 
+    fn small(&mut self, size: u64, stream: u64) -> Result<u64, Code> {
+        self.answer_on(Record::wanted(Word::Small, 0, size), stream)
+    }
+
+    fn drop_small(&mut self, pointer: u64, size: u64, stream: u64) -> Result<(), Code> {
+        self.answer_on(Record::wanted(Word::DropSmall, pointer, size), stream)
+            .map(drop)
+    }
+
     fn happened(&mut self, call: &Happened) {
         self.told(call);
     }
@@ -145,26 +180,28 @@ impl<T: Answers> Driver for T {
     }
 }
 
-/// The driver's words, in the order of their numbers.
+/// The driver's words, by their numbers in a log. The last two are a manager's alone.
 #[derive(Clone, Copy, Debug, PartialEq, Eq, PartialOrd, Ord)]
 #[allow(missing_docs, reason = "the methods of Driver say what they are")]
 pub enum Word {
-    Reserve,
-    Create,
-    Map,
-    Access,
-    Unmap,
-    Release,
-    Record,
-    Asked,
-    Wait,
-    Sync,
-    Giveback,
+    Reserve = 1,
+    Create = 2,
+    Map = 3,
+    Access = 4,
+    Unmap = 5,
+    Release = 6,
+    Record = 7,
+    Asked = 8,
+    Wait = 9,
+    Sync = 10,
+    Giveback = 11,
+    Small = 17,
+    DropSmall = 18,
 }
 
 impl Word {
     /// Every word.
-    pub const ALL: [Word; 11] = [
+    pub const ALL: [Word; 13] = [
         Word::Reserve,
         Word::Create,
         Word::Map,
@@ -176,6 +213,8 @@ impl Word {
         Word::Wait,
         Word::Sync,
         Word::Giveback,
+        Word::Small,
+        Word::DropSmall,
     ];
 
     /// The word as a trace has it.
@@ -192,13 +231,23 @@ impl Word {
             Word::Wait => "wait",
             Word::Sync => "sync",
             Word::Giveback => "giveback",
+            Word::Small => "small",
+            Word::DropSmall => "dropsmall",
         }
     }
 
-    /// The word of a log's kind, which counts them from 1.
+    /// The word's number in a log.
+    pub fn kind(self) -> u64 {
+        self as u64
+    }
+
     fn of_kind(kind: u64) -> Option<Self> {
-        let place = usize::try_from(kind).ok()?.checked_sub(1)?;
-        Self::ALL.get(place).copied()
+        Self::ALL.into_iter().find(|word| word.kind() == kind)
+    }
+
+    /// Whether it is for a small buffer.
+    pub(crate) fn is_of_small(self) -> bool {
+        matches!(self, Word::Small | Word::DropSmall)
     }
 }
 
@@ -207,7 +256,7 @@ impl Word {
 pub struct Record {
     /// Which call.
     pub word: Word,
-    /// Its first number; of a reserve or create that succeeded, what the driver gave.
+    /// Its first number; of a reserve, create or small that succeeded, what the driver gave.
     pub first: u64,
     /// Its second number; of an asked, 1 for complete.
     pub second: u64,
@@ -257,7 +306,7 @@ impl Record {
         let Answer { code, value } = answer;
         let given = if code == 0 { value } else { 0 };
         let (first, second) = match self.word {
-            Word::Reserve | Word::Create => (given, self.second),
+            Word::Reserve | Word::Create | Word::Small => (given, self.second),
             Word::Asked => (self.first, (given == 1) as u64),
             _ => (self.first, self.second),
         };
@@ -270,7 +319,8 @@ impl Record {
     }
 }
 
-/// What the library is lent for one driver call. Value is a base, a handle, or 1 for complete.
+/// What the library is lent for one driver call. Value is a base, a handle, a pointer, or 1 for
+/// complete.
 #[derive(Clone, Copy, Debug, PartialEq, Eq)]
 pub(crate) struct Answer {
     pub code: u64,
@@ -289,9 +339,14 @@ impl Answer {
     }
 }
 
-/// Makes the driver call of a record in a call of the pool. What only an answer tells is not looked
-/// at.
-pub(crate) fn make(driver: &mut dyn Driver, call: Call, wanted: Record) -> Answer {
+/// Makes the driver call of a record in a call that found these small buffers. What only an answer
+/// tells is not looked at.
+pub(crate) fn make(
+    driver: &mut dyn Driver,
+    call: Call,
+    small: &[SmallBuffer],
+    wanted: Record,
+) -> Answer {
     let Record { first, second, .. } = wanted;
     let nothing = |()| 0;
     Answer::of(match wanted.word {
@@ -307,5 +362,21 @@ pub(crate) fn make(driver: &mut dyn Driver, call: Call, wanted: Record) -> Answe
         Word::Sync if call == Call::Close => driver.sync_card().map(nothing),
         Word::Sync => driver.sync(first).map(nothing),
         Word::Giveback => driver.giveback(first, second).map(nothing),
+        Word::Small => driver.small(second, stream_of(call, small, wanted)),
+        Word::DropSmall => {
+            let stream = stream_of(call, small, wanted);
+            driver.drop_small(first, second, stream).map(nothing)
+        }
     })
+}
+
+/// The stream of a small buffer, which its record does not tell: the malloc's, or in any other call
+/// that of the buffer at the pointer.
+fn stream_of(call: Call, small: &[SmallBuffer], wanted: Record) -> u64 {
+    if let Call::Malloc { stream, .. } = call {
+        return stream;
+    }
+    let held = small.iter().find(|held| held.pointer == wanted.first);
+    held.expect("libfinder.a drops small buffers that are held")
+        .stream
 }

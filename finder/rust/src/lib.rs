@@ -15,6 +15,10 @@
 //! # }
 //! ```
 //!
+//! A pool takes sizes that are multiples of its page size. [`Manager`] takes them in bytes: it
+//! rounds them up for a pool of its own, has the driver serve those below a page, and counts the
+//! bytes that are held.
+//!
 //! [`Driver::happened`] is told each call with its driver calls and its result; it displays as a
 //! trace, which the programs replay and judge read. [`Driver::passed_over`] is told the driver
 //! calls that failed and ended no call.
@@ -29,12 +33,17 @@ mod driver;
     reason = "the library's functions are called here, and nowhere else"
 )]
 pub mod ffi;
+mod kept;
+mod manager;
 mod pool;
 mod refusal;
 mod trace;
+mod value;
 
 pub use card::Card;
 pub use driver::{Answers, Code, Driver, Record, Word};
-pub use pool::{Buffer, Freed, Interrupted, Pool};
+pub use kept::Interrupted;
+pub use manager::Manager;
+pub use pool::{Buffer, Freed, Pool};
 pub use refusal::{Orphan, Refusal};
 pub use trace::{Call, Config, Happened};

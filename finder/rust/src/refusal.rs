@@ -17,7 +17,8 @@ pub enum Refusal {
     ShortLog,
     /// 5: 2^62 events were recorded.
     IdsSpent,
-    /// 6: the size is 0 or no multiple of the page size.
+    /// 6: the size is 0 or no multiple of the page size; of a manager: 0, or above 2^63 when
+    /// rounded.
     BadSize {
         /// The size asked for.
         size: u64,
@@ -52,16 +53,18 @@ pub enum Refusal {
         /// Bytes of them that were, and were released again.
         created: u64,
     },
-    /// 14: another driver call failed. The pool is stopped.
+    /// 14: another driver call failed. The pool is stopped, unless it was one for a small buffer of
+    /// a manager: then nothing has changed.
     DriverFailed {
         /// That driver call, with the driver's code.
         record: Record,
         /// Whether it was an opening's: then there is no pool.
         opening: bool,
     },
-    /// 15: a base or a handle that the driver can't have given. The pool is stopped.
+    /// 15: a base, a handle or a small buffer's pointer that the driver can't have given. The pool
+    /// is stopped.
     Incredible {
-        /// The reserve or create that was answered so.
+        /// The reserve, create or small that was answered so.
         record: Record,
         /// Whether it was an opening's: then there is no pool.
         opening: bool,
@@ -73,6 +76,8 @@ pub enum Refusal {
     },
     /// 19: a configuration that open does not take.
     BadConfiguration,
+    /// 20: a manager holds 128 small buffers, and one more was asked for.
+    SmallsFull,
     /// The package's own, of no number: the driver panicked in a call before, see
     /// [`Pool::interrupted`](crate::Pool::interrupted). No driver call is made, and
     /// [`Driver::happened`](crate::Driver::happened) is not told.
@@ -129,6 +134,7 @@ impl Refusal {
             14 | 15 => Self::of_stop(happened),
             16 => InvalidPointer { address: first },
             19 => BadConfiguration,
+            20 => SmallsFull,
             other => {
                 panic!("libfinder.a answers {other}, which no call of this package has to meet")
             }
@@ -166,13 +172,16 @@ impl Refusal {
             Incredible { .. } => 15,
             InvalidPointer { .. } => 16,
             BadConfiguration => 19,
+            SmallsFull => 20,
             Poisoned => return None,
         })
     }
 
-    /// Whether the pool is stopped since: then only close is served. An opening leaves none.
+    /// Whether the pool is stopped since: then only close is served. An opening leaves none, and a
+    /// failure for a small buffer stops nothing.
     pub fn stops(self) -> bool {
         match self {
+            DriverFailed { record, .. } if record.word.is_of_small() => false,
             DriverFailed { opening, .. } | Incredible { opening, .. } => !opening,
             _ => false,
         }
@@ -192,7 +201,7 @@ impl Refusal {
         }
     }
 
-    /// What to do after 14 and 15.
+    /// What to do after 14 and 15 that stop a pool.
     fn after_a_stop(self) -> String {
         let (pool, joint) = if self.stops() {
             ("close the pool", ", then")
@@ -216,12 +225,12 @@ impl fmt::Display for Refusal {
             NotWellFormed => out.write_str("the value is no pool that a call left"),
             ShortLog => out.write_str("the log has no room for 2048 records"),
             IdsSpent => out.write_str("2^62 events were recorded: close the pool and open another"),
-            BadSize { size } => {
-                write!(
-                    out,
-                    "{size} bytes: ask for a multiple of the page size, and not for 0"
-                )
-            }
+            BadSize { size: 0 } => out.write_str("0 bytes: ask for some"),
+            BadSize { size } => write!(
+                out,
+                "{size} bytes: ask a pool for a multiple of the page size, a manager for at most \
+                 2^63"
+            ),
             SpansFull => out.write_str(
                 "128 free regions and live buffers: free one beside a free region of its stream",
             ),
@@ -247,16 +256,26 @@ impl fmt::Display for Refusal {
                 "the card has no memory: {missing} bytes were missing, {created} could be created: \
                  free some, or ask for less"
             ),
+            DriverFailed { record, .. } if record.word.is_of_small() => {
+                let failed = record.in_words();
+                write!(
+                    out,
+                    "a driver call failed ({failed}): nothing has changed, go on"
+                )
+            }
             DriverFailed { record, .. } => {
                 let (failed, after) = (record.in_words(), self.after_a_stop());
                 write!(out, "a driver call failed ({failed}): {after}")
             }
             Incredible { record, .. } => {
                 let (given, after) = (record.in_words(), self.after_a_stop());
+                let what = match record.word {
+                    Word::Small => "a pointer",
+                    _ => "a base or a handle",
+                };
                 write!(
                     out,
-                    "the driver gave a base or a handle that can't be ({given}): {after}; mend the \
-                     driver"
+                    "the driver gave {what} that can't be ({given}): {after}; mend the driver"
                 )
             }
             InvalidPointer { address } => write!(out, "no live buffer starts at {address}"),
@@ -265,6 +284,7 @@ impl fmt::Display for Refusal {
                  most 2^46, that is a multiple of the page size; at most 256 initial pages, which \
                  fit in it",
             ),
+            SmallsFull => out.write_str("128 small buffers: free one, or ask for at least a page"),
             Poisoned => out.write_str("the driver panicked in an earlier call: close the pool"),
         }
     }
@@ -281,6 +301,7 @@ mod tests {
         let record = Record::of_numbers([7, 3, 1, 700]).expect("a record");
         Refusal::of(&Happened {
             call: Call::Free { address: 80 },
+            asked: Some(Call::Free { address: 80 }),
             records: &[record],
             answer,
             first: 5,
@@ -292,7 +313,7 @@ mod tests {
     #[test]
     fn numbers_come_back() {
         assert_eq!(refusal(0), None);
-        for answer in (1..=16).chain([19]) {
+        for answer in (1..=16).chain([19, 20]) {
             let refusal = refusal(answer).expect("a refusal");
             assert_eq!(refusal.number(), Some(answer));
             assert_eq!(refusal.stops(), answer == 14 || answer == 15);

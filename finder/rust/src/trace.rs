@@ -40,7 +40,7 @@ impl Config {
     }
 }
 
-/// A call of the pool.
+/// A call of a pool or a manager.
 #[derive(Clone, Copy, Debug, PartialEq, Eq)]
 #[allow(missing_docs, reason = "the methods of Pool say what they are")]
 pub enum Call {
@@ -50,11 +50,15 @@ pub enum Call {
     Close,
 }
 
-/// A call that has ended. It displays as its lines of a trace.
+/// A call that has ended. It displays as its lines of a trace. Those of small buffers stand before
+/// what the pool was asked for; they have no line of a call and no result.
 #[derive(Clone, Copy, Debug, PartialEq, Eq)]
 pub struct Happened<'a> {
     /// The call.
     pub call: Call,
+    /// What the pool was asked for: the call itself, and of a manager's malloc with the size in
+    /// whole pages; none where the manager did not ask its pool.
+    pub asked: Option<Call>,
     /// Its driver calls, in order.
     pub records: &'a [Record],
     /// The answer's number: 0 for success.
@@ -83,7 +87,14 @@ impl<'a> Happened<'a> {
 
 impl fmt::Display for Happened<'_> {
     fn fmt(&self, out: &mut fmt::Formatter) -> fmt::Result {
-        let (word, numbers) = match self.call {
+        let is_of_pool = |record: &Record| !record.word.is_of_small();
+        let of_pool = self.records.iter().position(is_of_pool);
+        let (of_small, of_pool) = self.records.split_at(of_pool.unwrap_or(self.records.len()));
+        lines(out, of_small)?;
+        let Some(asked) = self.asked else {
+            return Ok(());
+        };
+        let (word, numbers) = match asked {
             Call::Open(config) => {
                 let page_size = config.page_size();
                 ("open", [page_size, config.va_size, config.initial_pages])
@@ -93,12 +104,17 @@ impl fmt::Display for Happened<'_> {
             Call::Close => ("close", [0, 0, 0]),
         };
         line(out, word, numbers)?;
-        for record in self.records {
-            let numbers = [record.first, record.second, record.code];
-            line(out, record.word.name(), numbers)?;
-        }
+        lines(out, of_pool)?;
         line(out, "result", [self.first, self.second, self.answer])
     }
+}
+
+fn lines(out: &mut fmt::Formatter, records: &[Record]) -> fmt::Result {
+    for record in records {
+        let numbers = [record.first, record.second, record.code];
+        line(out, record.word.name(), numbers)?;
+    }
+    Ok(())
 }
 
 fn line(out: &mut fmt::Formatter, word: &str, [first, second, third]: [u64; 3]) -> fmt::Result {

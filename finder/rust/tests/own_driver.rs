@@ -1,9 +1,9 @@
-//! A driver written out, with what it need not say left as it is: which sync it is asked for, and
-//! what is said of failures that end no call.
+//! A driver written out, with what it need not say left as it is: which sync it is asked for, small
+//! buffers, and what is said of failures that end no call.
 
 use std::{env, fs::File, process::Command};
 
-use caldarimpu::{Answers, Card, Code, Config, Driver, Pool, Record, Word};
+use caldarimpu::{Answers, Card, Code, Config, Driver, Manager, Pool, Record, Refusal, Word};
 
 const PAGE: u64 = 4;
 const VA: u64 = 40;
@@ -128,6 +128,40 @@ fn an_opening_that_is_given_up_syncs_the_card() {
     let refusal = Pool::open(&mut driver, config).expect_err("a failure");
     assert_eq!(refusal.number(), Some(14));
     assert_eq!(driver.synced, [Synced::Stream(0), Synced::Card]);
+}
+
+/// A driver for the plain pool needs no more for a manager, but it has no small buffers.
+#[test]
+fn without_small_buffers() {
+    let mut driver = Own::default();
+    assert_eq!(driver.drop_small(1, 2, 3).map_err(Code::get), Err(801));
+    let mut manager = Manager::open(&mut driver, Config::new(PAGE, VA)).expect("an opening");
+    let refusal = manager.malloc(&mut driver, 3, 1).expect_err("a failure");
+    let record = Record {
+        word: Word::Small,
+        first: 0,
+        second: 3,
+        code: 801,
+    };
+    let opening = false;
+    assert_eq!(refusal, Refusal::DriverFailed { record, opening });
+    let buffer = manager.malloc(&mut driver, 5, 1).expect("room");
+    assert_eq!((buffer.address, buffer.size), (2 * VA, 8));
+    assert_eq!(manager.close(&mut driver), Ok(0));
+}
+
+/// One in one function is asked for them as for all else.
+#[test]
+fn small_buffers_in_one_function() {
+    let mut driver = OwnAnswers(Card::new());
+    let mut manager = Manager::open(&mut driver, Config::new(PAGE, VA)).expect("an opening");
+    let buffer = manager.malloc(&mut driver, 3, 1).expect("a small buffer");
+    manager
+        .free(&mut driver, buffer.address)
+        .expect("a small buffer");
+    let words: Vec<Word> = driver.0.seen().iter().map(|seen| seen.word).collect();
+    assert_eq!(words, [Word::Reserve, Word::Small, Word::DropSmall]);
+    assert_eq!(manager.close(&mut driver), Ok(0));
 }
 
 /// The last test, in a process of its own.

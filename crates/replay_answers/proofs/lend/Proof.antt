@@ -1,7 +1,7 @@
 -- `replay_answers::lend` meets its contract.
 use native.Mathlib.Omega.{arith}
 use lib.ListN.{length-set}
-use Rattle.replay_answers.proofs.Keeping.{result-lent, spare-lent, more-lent}
+use Rattle.replay_answers.proofs.Keeping.{none-lent, spare-lent, more-lent}
 use borrow.Author.Needs.{needs}
 use Rattle.replay_answers.proofs.lend.Statement.{statement}
 use Rattle.replay_answers.proofs.lend.Tie as tie
@@ -9,7 +9,7 @@ use Rattle.replay_answers.proofs.lend.Tie as tie
 returns : tie.Need-returns
 returns c =
     let s = c .before .before .before in
-    result-lent (s .args .l) (c .if1 .taken) (s .pre .few)
+    none-lent (s .args .l) (c .if1 .taken) (s .pre .few)
 
 returns-2 : tie.Need-returns-2
 returns-2 c =

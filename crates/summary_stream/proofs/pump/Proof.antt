@@ -4,6 +4,7 @@ use Prim.Native.Nat.{ℕ, _+_, _-_, _^_, _≤_}
 use native.Mathlib.Omega.{arith}
 use Rattle.judge_steps.specs.State.{lent}
 use Rattle.judge_steps.specs.Promises.{WholeSlices}
+use Rattle.summary_counts.specs.Counts.{failurePlaces}
 use Rattle.summary_counts.specs.Taking.{own}
 use Rattle.summary_counts.specs.declared.Sums.{Sums}
 use Rattle.summary_counts.proofs.Starting.{WholeOwn, ready-start, roomy-start}
@@ -39,7 +40,7 @@ loop-holds c =
     let w : WholeSlices _ = record { reservations = refl; held = refl; mapped = refl; live = refl } in
     let v : WholeOwn _ = record { answers = refl; firsts = refl; failures = refl; handed = refl } in
     let r = ready-start _ s _ w in (
-      record { ready = λ q. r; fits = r .tables; roomy = roomy-start _ s _ v (all-zeros 85) (all-zeros 12) },
+      record { ready = λ q. r; fits = r .tables; roomy = roomy-start _ s _ v (all-zeros 85) (all-zeros failurePlaces) },
       ((w, v), (omega (arith, ap (λ (x : Sums). x .counts .lines) s), omega arith)),
     )
 

@@ -71,10 +71,21 @@ unfolding kindOf
 returns-16 c = rw (c .before .match .keys1, c .match2 .keys16)
 
 returns-17 : tie.Need-returns-17
-returns-17 c = let a = c .before .before in rw (c .before .match .keys1) (sym (other-low 0 (a .args .low) (a .fits .low .fits) (c .match2 .rest)))
+unfolding kindOf
+returns-17 c = rw (c .before .match .keys1, c .match2 .keys17)
 
 returns-18 : tie.Need-returns-18
-returns-18 c = let a = c .before in sym (other-high (a .args .high) (a .args .low) (a .fits .low .fits) (0 ∷ []) refl (c .match .rest))
+returns-18 c = let a = c .before .before in rw (c .before .match .keys1) (sym (other-low 0 (a .args .low) (a .fits .low .fits) (c .match2 .rest)))
+
+returns-19 : tie.Need-returns-19
+unfolding kindOf
+returns-19 c = rw (c .before .match .keys2, c .match3 .keys1)
+
+returns-20 : tie.Need-returns-20
+returns-20 c = let a = c .before .before in rw (c .before .match .keys2) (sym (other-low 100 (a .args .low) (a .fits .low .fits) (c .match3 .rest)))
+
+returns-21 : tie.Need-returns-21
+returns-21 c = let a = c .before in sym (other-high (a .args .high) (a .args .low) (a .fits .low .fits) (0 ∷ 100 ∷ []) refl (c .match .rest))
 
 pub kind-of-spec : {M : Type 1} → statement M
 kind-of-spec =
@@ -97,4 +108,7 @@ kind-of-spec =
     returns-15
     returns-16
     returns-17
-    returns-18)
+    returns-18
+    returns-19
+    returns-20
+    returns-21)

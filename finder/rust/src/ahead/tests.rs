@@ -1,13 +1,13 @@
 //! Guessing ahead against the plain way: a call run on the answers known so far, the driver call
-//! made that it ends with, and the call run again with one answer more.
+//! made that it ends with, and the call run again with one answer more. Of pools and of managers.
 
 use std::collections::BTreeMap;
 
-use super::run;
 use crate::{
     driver::{make, Answer},
-    ffi::{self, Reply, LOG},
-    Answers, Call, Code, Config, Happened, Pool, Record, Refusal, Word,
+    ffi::{self, LOG},
+    value::{Ran, Value},
+    Answers, Call, Code, Config, Driver, Happened, Manager, Pool, Record, Refusal, Word,
 };
 
 /// A driver of random mood, and not always a credible one.
@@ -18,6 +18,8 @@ struct Whim {
     failures: u64,
     complete: u64,
     seen: Vec<Record>,
+    /// Of small buffers.
+    streams: Vec<u64>,
     told: Vec<String>,
     /// Failures that it was told ended no call.
     passed_over: usize,
@@ -31,6 +33,7 @@ impl Whim {
             failures,
             complete,
             seen: Vec::new(),
+            streams: Vec::new(),
             told: Vec::new(),
             passed_over: 0,
             runs: 0,
@@ -46,8 +49,8 @@ impl Whim {
         (mixed ^ (mixed >> 31)) % end
     }
 
-    /// Bases are aligned mostly and free mostly; handles are new mostly, and some are those that are
-    /// guessed.
+    /// Bases are aligned mostly and free mostly; handles and pointers are new mostly, and some are
+    /// those that are guessed.
     fn value(&mut self, wanted: Record) -> u64 {
         match wanted.word {
             Word::Reserve => {
@@ -57,6 +60,11 @@ impl Whim {
             Word::Create => match self.below(40) {
                 0 => (1 << 63) + self.below(12),
                 _ => self.below(100_000),
+            },
+            Word::Small => match self.below(60) {
+                0 => (1 << 63) + self.below(2),
+                1 => self.below(2000),
+                _ => 1_000_000 + 16 * self.below(50_000),
             },
             Word::Asked => u64::from(self.below(100) < self.complete),
             _ => 0,
@@ -75,6 +83,11 @@ impl Answers for Whim {
         answer
     }
 
+    fn answer_on(&mut self, wanted: Record, stream: u64) -> Result<u64, Code> {
+        self.streams.push(stream);
+        self.answer(wanted)
+    }
+
     fn told(&mut self, call: &Happened) {
         self.told.push(call.to_string());
         self.runs += call.runs;
@@ -86,12 +99,54 @@ impl Answers for Whim {
     }
 }
 
-/// Runs a call the plain way and gives its reply and its driver calls.
-fn plain(driver: &mut Whim, pool: &ffi::Pool, call: Call) -> (Reply, Vec<Record>) {
+/// A pool or a manager, under one face.
+trait Face: Sized {
+    type Of: Value + PartialEq;
+
+    fn opened(driver: &mut dyn Driver, config: Config) -> Result<Self, Refusal>;
+    /// A malloc or a free.
+    fn served(&mut self, driver: &mut dyn Driver, call: Call) -> Result<(), Refusal>;
+    fn closed(self, driver: &mut dyn Driver) -> Result<(), Refusal>;
+    fn held(&self) -> &Self::Of;
+}
+
+macro_rules! face {
+    ($kept:ident) => {
+        impl Face for $kept {
+            type Of = ffi::$kept;
+
+            fn opened(driver: &mut dyn Driver, config: Config) -> Result<Self, Refusal> {
+                Self::open(driver, config)
+            }
+
+            fn served(&mut self, driver: &mut dyn Driver, call: Call) -> Result<(), Refusal> {
+                match call {
+                    Call::Malloc { bytes, stream } => self.malloc(driver, bytes, stream).map(drop),
+                    Call::Free { address } => self.free(driver, address).map(drop),
+                    call => panic!("{call:?} of an open one"),
+                }
+            }
+
+            fn closed(self, driver: &mut dyn Driver) -> Result<(), Refusal> {
+                self.close(driver).map(drop)
+            }
+
+            fn held(&self) -> &ffi::$kept {
+                self.value()
+            }
+        }
+    };
+}
+
+face!(Pool);
+face!(Manager);
+
+/// Runs a call the plain way and gives its end and its driver calls.
+fn plain<V: Value>(driver: &mut Whim, value: &V, call: Call) -> (Ran<V>, Vec<Record>) {
     let mut log = vec![0; 4 * LOG];
     let mut answers = Vec::new();
     loop {
-        let reply = run(pool, call, &answers, &mut log);
+        let reply = value.run(call, &answers, &mut log);
         let records: Vec<Record> = (log.chunks(4).take(reply.records))
             .map(|numbers| Record::of_numbers(numbers.try_into().expect("four numbers")))
             .map(|record| record.expect("a word"))
@@ -99,7 +154,8 @@ fn plain(driver: &mut Whim, pool: &ffi::Pool, call: Call) -> (Reply, Vec<Record>
         if reply.answer != 17 {
             return (reply, records);
         }
-        let answer = make(driver, call, *records.last().expect("the wanted call"));
+        let wanted = *records.last().expect("the wanted call");
+        let answer = make(driver, call, value.small(), wanted);
         answers.extend([answer.code, answer.value]);
     }
 }
@@ -113,21 +169,21 @@ fn number_of(ended: Result<(), Refusal>) -> u64 {
 }
 
 /// The two ways, each on a driver of its own, which begin alike.
-struct Two {
+struct Two<F: Face> {
     ahead: Whim,
     plain: Whim,
-    pool: Option<Pool>,
-    value: Box<ffi::Pool>,
+    face: Option<F>,
+    value: Box<F::Of>,
     answers: BTreeMap<u64, u64>,
 }
 
-impl Two {
+impl<F: Face> Two<F> {
     fn new(whim: Whim) -> Self {
         Self {
             ahead: whim.clone(),
             plain: whim,
-            pool: None,
-            value: Box::new(ffi::Pool::closed()),
+            face: None,
+            value: Box::new(F::Of::closed()),
             answers: BTreeMap::new(),
         }
     }
@@ -135,18 +191,13 @@ impl Two {
     /// Runs a call both ways and compares; gives its number.
     fn run(&mut self, call: Call) -> u64 {
         let ahead = &mut self.ahead;
-        let ended = match (call, &mut self.pool) {
-            (Call::Open(config), place) => {
-                Pool::open(ahead, config).map(|pool| *place = Some(pool))
-            }
-            (Call::Malloc { bytes, stream }, Some(pool)) => {
-                pool.malloc(ahead, bytes, stream).map(drop)
-            }
-            (Call::Free { address }, Some(pool)) => pool.free(ahead, address).map(drop),
+        let ended = match (call, &mut self.face) {
+            (Call::Open(config), place) => F::opened(ahead, config).map(|face| *place = Some(face)),
             (Call::Close, place) => {
-                let pool = place.take().expect("the pool is open");
-                pool.close(ahead).map(drop)
+                let face = place.take().expect("it is open");
+                face.closed(ahead)
             }
+            (call, Some(face)) => face.served(ahead, call),
             (call, None) => panic!("{call:?} before an opening"),
         };
         let number = number_of(ended);
@@ -160,7 +211,8 @@ impl Two {
     fn run_plainly(&mut self, call: Call) -> u64 {
         let number = self.run_once(call);
         // An opening that fails closes what stands.
-        if matches!(call, Call::Open(_)) && number != 0 && self.value.state != ffi::state::CLOSED {
+        let stands = self.value.pool().state != ffi::state::CLOSED;
+        if matches!(call, Call::Open(_)) && number != 0 && stands {
             self.run_once(Call::Close);
         }
         number
@@ -168,11 +220,13 @@ impl Two {
 
     fn run_once(&mut self, call: Call) -> u64 {
         let before = self.plain.seen.len();
-        let (reply, records) = plain(&mut self.plain, &self.value, call);
+        let asked = self.value.asked(call);
+        let (reply, records) = plain(&mut self.plain, &*self.value, call);
         assert_eq!(self.plain.seen[before..], records);
-        *self.value = reply.pool;
+        *self.value = reply.value;
         let happened = Happened {
             call,
+            asked,
             records: &records,
             answer: reply.answer,
             first: reply.first,
@@ -190,14 +244,15 @@ impl Two {
     fn compare(&mut self) {
         let (ahead, plain) = (&mut self.ahead, &mut self.plain);
         assert_eq!(ahead.seen, plain.seen);
+        assert_eq!(ahead.streams, plain.streams);
         assert_eq!(ahead.told, plain.told);
         assert_eq!(ahead.passed_over, plain.passed_over);
         for whim in [ahead, plain] {
             whim.seen.clear();
             whim.told.clear();
         }
-        if let Some(pool) = &self.pool {
-            assert!(*pool.value() == *self.value, "the pools differ");
+        if let Some(face) = &self.face {
+            assert!(*face.held() == *self.value, "the values differ");
         }
     }
 }
@@ -256,8 +311,38 @@ impl Kind {
         }
     }
 
+    /// One of a manager: two of three for small buffers, and sizes between whole pages.
+    fn call_in_bytes(&self, choice: &mut Whim, value: &ffi::Manager) -> Call {
+        let small = value.small.entries();
+        if choice.below(3) == 0 {
+            return match self.call(choice, &value.pool) {
+                Call::Malloc { bytes, stream } => Call::Malloc {
+                    bytes: bytes + choice.below(4),
+                    stream,
+                },
+                call => call,
+            };
+        }
+        if choice.below(20) < self.frees && !small.is_empty() {
+            let address = small[choice.below(small.len() as u64) as usize].pointer;
+            return Call::Free { address };
+        }
+        let bytes = match choice.below(60) {
+            0 => 0,
+            1 => (1 << 63) + choice.below(2),
+            _ => 1 + choice.below(3),
+        };
+        let stream = choice.below(self.streams);
+        Call::Malloc { bytes, stream }
+    }
+
     /// A session both ways. A stopped pool is asked on for a while.
-    fn session(&self, seed: u64, calls: u64) -> Two {
+    fn session<F: Face>(
+        &self,
+        seed: u64,
+        calls: u64,
+        next: impl Fn(&Self, &mut Whim, &F::Of) -> Call,
+    ) -> Two<F> {
         let failures = [0, 2, 30][seed as usize % 3];
         let mut choice = Whim::new(!seed, 0, 0);
         let mut two = Two::new(Whim::new(seed, failures, self.complete));
@@ -266,7 +351,7 @@ impl Kind {
         }
         let mut left = calls;
         while left > 0 {
-            let call = self.call(&mut choice, &two.value);
+            let call = next(self, &mut choice, &two.value);
             let stopped = two.run(call) == 2;
             left = if stopped { left / 2 } else { left - 1 };
         }
@@ -277,14 +362,15 @@ impl Kind {
 
 /// The numbers that a pool's own user can meet, but 5: it takes 2^62 calls.
 const MET: [u64; 14] = [0, 2, 6, 7, 8, 9, 10, 11, 12, 13, 14, 15, 16, 19];
+/// Those of a manager's sessions, in which fewer buffers are the pool's.
+const MET_IN_BYTES: [u64; 11] = [0, 2, 6, 8, 12, 13, 14, 15, 16, 19, 20];
 
-#[test]
-fn both_ways_are_one() {
+fn play<F: Face>(met: &[u64], next: impl Fn(&Kind, &mut Whim, &F::Of) -> Call) {
     let mut answers: BTreeMap<u64, u64> = BTreeMap::new();
     let (mut ahead, mut plain) = (0, 0);
     for seed in 0..120 {
         let kind = &KINDS[seed as usize % KINDS.len()];
-        let two = kind.session(seed, 300);
+        let two: Two<F> = kind.session(seed, 300, &next);
         for (number, times) in &two.answers {
             *answers.entry(*number).or_default() += times;
         }
@@ -292,11 +378,21 @@ fn both_ways_are_one() {
         plain += two.plain.runs;
     }
     println!("{answers:?}; {ahead} runs ahead, {plain} plainly");
-    for number in MET {
+    for number in met {
         assert!(
-            answers.contains_key(&number),
+            answers.contains_key(number),
             "{number} was not met: {answers:?}"
         );
     }
     assert!(ahead * 2 < plain);
+}
+
+#[test]
+fn both_ways_are_one() {
+    play::<Pool>(&MET, Kind::call);
+}
+
+#[test]
+fn both_ways_are_one_in_bytes() {
+    play::<Manager>(&MET_IN_BYTES, Kind::call_in_bytes);
 }

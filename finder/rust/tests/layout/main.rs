@@ -2,6 +2,7 @@
 //! them: pools made by hand go in, of numbers that stand nowhere else, and those that come out in
 //! the log, the answer and the pool say which words were read and written. What differs is named.
 
+mod manager;
 mod places;
 
 use caldarimpu::ffi::{

@@ -37,7 +37,11 @@ returns-8 : tie.Need-returns-8
 unfolding IsTrue judgeOf
 returns-8 c = search needs
 
+returns-9 : tie.Need-returns-9
+unfolding IsTrue judgeOf
+returns-9 c = search needs
+
 pub of-run-spec : {M : Type 1} → statement M
 of-run-spec =
     tie.close
-    (tie.spec returns returns-2 returns-3 returns-4 returns-5 returns-6 returns-7 returns-8)
+    (tie.spec returns returns-2 returns-3 returns-4 returns-5 returns-6 returns-7 returns-8 returns-9)

@@ -89,30 +89,42 @@ returns-16 c =
     rw (c .match .keys16)
 
 returns-17 : tie.Need-returns-17
+unfolding said
 returns-17 c =
+    rw (c .match .keys17)
+
+returns-18 : tie.Need-returns-18
+unfolding said
+returns-18 c =
+    rw (c .match .keys18)
+
+returns-19 : tie.Need-returns-19
+returns-19 c =
     let n = c .match .rest in
     let k = c .before .args .kind in
     said-none k
     (⊎-elim inl
     (λ z.
     let h0 : 1 ≤ k = omega arith in
-    let h1 = next-up k 1 h0 (n .0 .0 .0 .0 .0 .0 .0 .0 .0 .0 .0 .0 .0 .0 .0 .1) in
-    let h2 = next-up k 2 h1 (n .0 .0 .0 .0 .0 .0 .0 .0 .0 .0 .0 .0 .0 .0 .1) in
-    let h3 = next-up k 3 h2 (n .0 .0 .0 .0 .0 .0 .0 .0 .0 .0 .0 .0 .0 .1) in
-    let h4 = next-up k 4 h3 (n .0 .0 .0 .0 .0 .0 .0 .0 .0 .0 .0 .0 .1) in
-    let h5 = next-up k 5 h4 (n .0 .0 .0 .0 .0 .0 .0 .0 .0 .0 .0 .1) in
-    let h6 = next-up k 6 h5 (n .0 .0 .0 .0 .0 .0 .0 .0 .0 .0 .1) in
-    let h7 = next-up k 7 h6 (n .0 .0 .0 .0 .0 .0 .0 .0 .0 .1) in
-    let h8 = next-up k 8 h7 (n .0 .0 .0 .0 .0 .0 .0 .0 .1) in
-    let h9 = next-up k 9 h8 (n .0 .0 .0 .0 .0 .0 .0 .1) in
-    let h10 = next-up k 10 h9 (n .0 .0 .0 .0 .0 .0 .1) in
-    let h11 = next-up k 11 h10 (n .0 .0 .0 .0 .0 .1) in
-    let h12 = next-up k 12 h11 (n .0 .0 .0 .0 .1) in
-    let h13 = next-up k 13 h12 (n .0 .0 .0 .1) in
-    let h14 = next-up k 14 h13 (n .0 .0 .1) in
-    let h15 = next-up k 15 h14 (n .0 .1) in
-    let h16 = next-up k 16 h15 (n .1) in
-    inr h16)
+    let h1 = next-up k 1 h0 (n .0 .0 .0 .0 .0 .0 .0 .0 .0 .0 .0 .0 .0 .0 .0 .0 .0 .1) in
+    let h2 = next-up k 2 h1 (n .0 .0 .0 .0 .0 .0 .0 .0 .0 .0 .0 .0 .0 .0 .0 .0 .1) in
+    let h3 = next-up k 3 h2 (n .0 .0 .0 .0 .0 .0 .0 .0 .0 .0 .0 .0 .0 .0 .0 .1) in
+    let h4 = next-up k 4 h3 (n .0 .0 .0 .0 .0 .0 .0 .0 .0 .0 .0 .0 .0 .0 .1) in
+    let h5 = next-up k 5 h4 (n .0 .0 .0 .0 .0 .0 .0 .0 .0 .0 .0 .0 .0 .1) in
+    let h6 = next-up k 6 h5 (n .0 .0 .0 .0 .0 .0 .0 .0 .0 .0 .0 .0 .1) in
+    let h7 = next-up k 7 h6 (n .0 .0 .0 .0 .0 .0 .0 .0 .0 .0 .0 .1) in
+    let h8 = next-up k 8 h7 (n .0 .0 .0 .0 .0 .0 .0 .0 .0 .0 .1) in
+    let h9 = next-up k 9 h8 (n .0 .0 .0 .0 .0 .0 .0 .0 .0 .1) in
+    let h10 = next-up k 10 h9 (n .0 .0 .0 .0 .0 .0 .0 .0 .1) in
+    let h11 = next-up k 11 h10 (n .0 .0 .0 .0 .0 .0 .0 .1) in
+    let h12 = next-up k 12 h11 (n .0 .0 .0 .0 .0 .0 .1) in
+    let h13 = next-up k 13 h12 (n .0 .0 .0 .0 .0 .1) in
+    let h14 = next-up k 14 h13 (n .0 .0 .0 .0 .1) in
+    let h15 = next-up k 15 h14 (n .0 .0 .0 .1) in
+    let h16 = next-up k 16 h15 (n .0 .0 .1) in
+    let h17 = next-up k 17 h16 (n .0 .1) in
+    let h18 = next-up k 18 h17 (n .1) in
+    inr h18)
     (cases-eq k 0))
 
 pub said-of-spec : {M : Type 1} → statement M
@@ -135,4 +147,6 @@ said-of-spec =
     returns-14
     returns-15
     returns-16
-    returns-17)
+    returns-17
+    returns-18
+    returns-19)

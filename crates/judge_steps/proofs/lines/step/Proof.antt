@@ -33,6 +33,12 @@ step-result-requires c κs =
 enum-told-2 : tie.Need-enum-told-2
 enum-told-2 c = search needs
 
+step-aside-requires : tie.Need-step-aside-requires
+step-aside-requires c κs = search needs
+
+enum-told-3 : tie.Need-enum-told-3
+enum-told-3 c = search needs
+
 broken-requires : tie.Need-broken-requires
 broken-requires c κs = search needs
 
@@ -80,7 +86,14 @@ returns-4 c =
     let q = c .before .before .before in
     let v = q .before .before .before .before .before .args in
     let ts = lent (v .reservations .now) (v .held .now) (v .mapped .now) (v .live .now) in
-    ap (λ z. stepOf z ts) (c .broken .ensures) ∙ unknown-refused (v .s) ts (v .l) ∙ ap (λ w. judged w (judgeOf (v .s) ts) (v .l)) (sym (c .before .enum-told2 .given .1) ∙ q .said-of .ensures)
+    c .step-aside .ensures ts ∙ ap (λ w. judged w (judgeOf (v .s) ts) (v .l)) (sym (c .before .enum-told2 .given .1) ∙ q .said-of .ensures)
+
+returns-5 : tie.Need-returns-5
+returns-5 c =
+    let q = c .before .before .before in
+    let v = q .before .before .before .before .before .args in
+    let ts = lent (v .reservations .now) (v .held .now) (v .mapped .now) (v .live .now) in
+    ap (λ z. stepOf z ts) (c .broken .ensures) ∙ unknown-refused (v .s) ts (v .l) ∙ ap (λ w. judged w (judgeOf (v .s) ts) (v .l)) (sym (c .before .enum-told3 .given .1) ∙ q .said-of .ensures)
 
 pub step-spec : {M : Type 1} → statement M
 step-spec =
@@ -94,6 +107,8 @@ step-spec =
     enum-told
     step-result-requires
     enum-told-2
+    step-aside-requires
+    enum-told-3
     broken-requires
     same-length
     same-length-2
@@ -104,4 +119,5 @@ step-spec =
     same-length-5
     same-length-6
     returns-3
-    returns-4)
+    returns-4
+    returns-5)

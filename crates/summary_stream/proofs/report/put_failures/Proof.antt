@@ -3,14 +3,15 @@ use mathlib.Core.Path.{_≡_}
 use Prim.Native.Nat.{_-_, _≤_}
 use lib.ListN.{length}
 use borrow.Author.Needs.{needs}
+use Rattle.summary_counts.specs.Counts.{failurePlaces}
 use Rattle.summary_stream.proofs.report.put_failures.Statement.{statement}
 use Rattle.summary_stream.proofs.report.put_failures.Tie as tie
 
 abbrev Inv-loop : tie.InvT-loop
-Inv-loop out₀ at failures top n₀ i₀ t8 out n i = (i ≤ 12) × (length out ≡ length out₀)
+Inv-loop out₀ at failures top n₀ i₀ t8 out n i = (i ≤ failurePlaces) × (length out ≡ length out₀)
 
 abbrev μ-loop : tie.MeasureT-loop
-μ-loop out₀ at failures top n₀ i₀ t8 out n i = 12 - i
+μ-loop out₀ at failures top n₀ i₀ t8 out n i = failurePlaces - i
 
 slice-aggregate-put : tie.Need-slice-aggregate-put Inv-loop μ-loop
 slice-aggregate-put c = search needs

@@ -137,6 +137,12 @@ enum-told-12 c = search needs
 of-requires-22 : tie.Need-of-requires-22
 of-requires-22 c κs = search needs
 
+enum-told-13 : tie.Need-enum-told-13
+enum-told-13 c = search needs
+
+of-requires-23 : tie.Need-of-requires-23
+of-requires-23 c κs = search needs
+
 returns : tie.Need-returns
 returns c = c .of .ensures ∙ sym (ap numbers (c .before .before .self .given .1))
 
@@ -203,6 +209,9 @@ returns-21 c = c .of21 .ensures ∙ sym (ap numbers (c .before .enum-told11 .giv
 returns-22 : tie.Need-returns-22
 returns-22 c = c .of22 .ensures ∙ sym (ap numbers (c .before .enum-told12 .given .1))
 
+returns-23 : tie.Need-returns-23
+returns-23 c = c .of23 .ensures ∙ sym (ap numbers (c .before .enum-told13 .given .1))
+
 pub numbers-spec : {M : Type 1} → statement M
 numbers-spec =
     tie.close
@@ -251,6 +260,8 @@ numbers-spec =
     of-requires-21
     enum-told-12
     of-requires-22
+    enum-told-13
+    of-requires-23
     returns
     returns-2
     returns-3
@@ -272,4 +283,5 @@ numbers-spec =
     returns-19
     returns-20
     returns-21
-    returns-22)
+    returns-22
+    returns-23)

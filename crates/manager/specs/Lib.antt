@@ -1,0 +1,3 @@
+pub mod Promises
+pub mod Entry
+pub mod Behind

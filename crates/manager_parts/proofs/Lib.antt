@@ -1,0 +1,5 @@
+pub mod Sizes
+pub mod Entry
+pub mod MovesUp
+pub mod Drops
+pub mod Combined

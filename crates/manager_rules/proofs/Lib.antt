@@ -1,0 +1,7 @@
+pub mod Own
+pub mod Keeps
+pub mod Figures
+pub mod WithoutSmall
+pub mod Unasked
+pub mod Runs
+pub mod Reset

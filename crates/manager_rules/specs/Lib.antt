@@ -1,0 +1,11 @@
+pub mod Values
+pub mod Sizes
+pub mod WellFormed
+pub mod HandsBack
+pub mod Open
+pub mod Malloc
+pub mod Free
+pub mod Close
+pub mod Reset
+pub mod Calls
+pub mod Runs
