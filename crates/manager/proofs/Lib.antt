@@ -5,3 +5,4 @@ pub mod Frees
 pub mod Closes
 pub mod OwnEntry
 pub mod EntryPoints
+pub mod Once
