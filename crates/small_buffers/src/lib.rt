@@ -1,4 +1,4 @@
-// The table of small buffers, and what the layer above the pool tests of itself: every function takes whatever cells and counts there are, and none fails.
+// The table of small buffers, and what the layer above the pool tests of itself, which is asked of any value.
 mod table;
 mod tests;
 
