@@ -1,4 +1,6 @@
 // What bench/ calls from outside, under C's conventions: the least that a call costs which takes the pool by value and hands it back.
+#![tactic(auto)]
+
 ghost use Rattle.std.specs.Prelude.{◌≡◌, true};
 ghost use Rattle.tables.specs.WellFormed.{well_formed};
 ghost use Rattle.pool_entry.specs.Promises.{Stands, Tells};
@@ -6,7 +8,7 @@ ghost use Rattle.pool_entry.specs.Promises.{Stands, Tells};
 use tables::Pool;
 
 #[repr(C)]
-#[derive(Drop)]
+#[derive(Clone, Copy)]
 pub struct Passed {
     pub pool: Pool,
     pub sound: bool,

@@ -1,6 +1,8 @@
 // The pool: open, malloc, free, close. Each takes the pool by value and returns it with the outcome, the record count and the answers taken, for every pool
 // value, every argument, every list of answers and every log. A pool as a call of ours leaves it is read as it is, and whole only by functions that the
 // compiler does not inline: each that it does costs a copy.
+#![tactic(auto)]
+
 mod leaving;
 mod refusing;
 mod unready;
@@ -21,14 +23,14 @@ use tables::{Choice, Outcome};
 use words::Address;
 
 #[repr(C)]
-#[derive(Drop)]
+#[derive(Clone, Copy)]
 pub struct Pool {
     pub value: tables::Pool,
 }
 
 // `records` were written to the log, `taken` answers were taken.
 #[repr(C)]
-#[derive(Drop)]
+#[derive(Clone, Copy)]
 pub struct Called {
     pub pool: Pool,
     pub outcome: Outcome,

@@ -1,4 +1,6 @@
 // Driver calls: each takes the next lent answer and leaves its record in the log, after `made` others. `answers` and `log` are those of the whole call.
+#![tactic(auto)]
+
 ghost use Rattle.std.specs.Prelude.{cond, ◌≡◌, ◌+◌};
 ghost use Rattle.words.specs.Answers.{complete};
 ghost use Rattle.tables.specs.Driver.{heard, must, try, is_complete, reserve as reserve_step, create as create_step, ask as ask_step};
@@ -10,14 +12,14 @@ use tables::{FreeRegion, Outcome, Pool};
 use words::{Answer, EventId, Record, Word, answer_after};
 
 // How a part of a call ended.
-#[derive(Drop)]
+#[derive(Clone, Copy)]
 pub enum Ended {
     On,
     Ends(Outcome),
 }
 
 // What the steps of a call leave.
-#[derive(Drop)]
+#[derive(Clone, Copy)]
 pub struct Stepped {
     pub pool: Pool,
     pub outcome: Outcome,
@@ -43,7 +45,7 @@ pub fn stepped_at(pool: Pool, ended: Ended, made: usize) -> Stepped
 }
 
 // `region` is where the buffer comes from, where the call goes on.
-#[derive(Drop)]
+#[derive(Clone, Copy)]
 pub struct Roomed {
     pub pool: Pool,
     pub region: FreeRegion,
@@ -63,7 +65,7 @@ pub fn ended_at(pool: Pool, ended: Ended, made: usize) -> Roomed
     }
 }
 
-#[derive(Drop)]
+#[derive(Clone, Copy)]
 pub enum Asked {
     Complete(bool),
     Unasked,

@@ -1,5 +1,7 @@
 // The pool for C and Rust, and in layer.rt the layer that takes bytes: the four calls of each under C's conventions, with the promises of those that they call, and for the outcome its numbers
 // (docs/RULES.md 4.1).
+#![tactic(auto)]
+
 mod layer;
 
 ghost use Rattle.std.specs.Prelude.{◌≡◌};
@@ -12,7 +14,7 @@ use words::Address;
 
 // What a call hands back: `answer` is the number, `first` and `second` its two values; `records` were written to the log, `taken` answers were taken.
 #[repr(C)]
-#[derive(Drop)]
+#[derive(Clone, Copy)]
 pub struct Reply {
     pub pool: Pool,
     pub answer: u64,
@@ -24,7 +26,7 @@ pub struct Reply {
 
 // As `Reply`, with the layer in the pool's place.
 #[repr(C)]
-#[derive(Drop)]
+#[derive(Clone, Copy)]
 pub struct ManagerReply {
     pub manager: Manager,
     pub answer: u64,

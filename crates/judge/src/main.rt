@@ -1,4 +1,6 @@
 // Reads a trace and prints the judge's verdict on it, one line on standard output, and why on standard error; of several traces, each with its name.
+#![tactic(auto)]
+
 use libc::{STDERR_FILENO, STDIN_FILENO, STDOUT_FILENO};
 use named_files::Wish;
 

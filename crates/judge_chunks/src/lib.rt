@@ -1,4 +1,6 @@
 // The judge of a trace whose bytes come in chunks: whatever the cuts, its verdict is that of the definitions on the lines of the whole.
+#![tactic(auto)]
+
 ghost use Rattle.std.specs.Prelude.{◌≡◌, [], ◌+◌, ◌<◌, ◌^◌, length};
 ghost use Rattle.judge_steps.specs.State.{Lent, lent};
 ghost use Rattle.judge_steps.specs.Promises.{found, left};
@@ -10,7 +12,7 @@ use judge_steps::{Outcome, State, step};
 use trace::{Partial, Reading};
 
 // How far a trace is judged: the lines so far, what they have said, the part of a line that was read, and what the last line came to.
-#[derive(Drop)]
+#[derive(Clone, Copy)]
 pub struct Progress {
     pub lines: u64,
     pub state: State,
@@ -92,7 +94,7 @@ fn on_reading(
 }
 
 // How far a chunk is read.
-#[derive(Drop)]
+#[derive(Clone, Copy)]
 pub struct Fed {
     pub progress: Progress,
     pub at: usize,

@@ -1,5 +1,7 @@
 // Why the judge rejects a line, in words. The judge's verdict does not lean on this crate: it looks at the state and the tables again, and what it says is proved
 // true of them (specs/Reasons.antt) or of the bytes of a malformed line (specs/Forms.antt).
+#![tactic(auto)]
+
 mod fields;
 mod forms;
 mod order;
@@ -16,7 +18,7 @@ pub use reasons::why;
 pub use texts::{put_empty, put_form, put_large, put_reason, put_within};
 
 // What is found against a line. The comments name the numbers.
-#[derive(Drop)]
+#[derive(Clone, Copy)]
 pub enum Reason {
     // R0
     NotOpened,
@@ -67,7 +69,7 @@ pub enum Reason {
 }
 
 // What is wrong with the form of a line. A place is counted from 0.
-#[derive(Drop)]
+#[derive(Clone, Copy)]
 pub enum Form {
     Empty,
     CarriageReturn,

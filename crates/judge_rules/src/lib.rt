@@ -1,8 +1,10 @@
 // The judge of a trace, as definitions: the rules are in specs/Rules.antt, its sizes in specs/Sizes.antt, the walk over the lines in specs/Verdict.antt, what
 // a trace means in specs/Meaning.antt.
+#![tactic(auto)]
+
 use words::Word;
 
-#[derive(Drop)]
+#[derive(Clone, Copy)]
 pub enum Call {
     Open,
     Malloc,
@@ -11,7 +13,7 @@ pub enum Call {
 }
 
 // What the kind of a line stands for.
-#[derive(Drop)]
+#[derive(Clone, Copy)]
 pub enum Said {
     Record(Word),
     Call(Call),
@@ -22,7 +24,7 @@ pub enum Said {
 }
 
 // A call line: the call, its first and its second number.
-#[derive(Drop)]
+#[derive(Clone, Copy)]
 pub struct Asked {
     pub call: Call,
     pub first: u64,
@@ -30,7 +32,7 @@ pub struct Asked {
 }
 
 // docs/RULES.md 8.1: where a trace stands.
-#[derive(Drop)]
+#[derive(Clone, Copy)]
 pub struct Run {
     // the open was read, which is the first line
     pub opened: bool,
@@ -45,7 +47,7 @@ pub struct Run {
 }
 
 // A rejected line with its rule; a line that is too much, with what is too large there.
-#[derive(Drop)]
+#[derive(Clone, Copy)]
 pub enum Verdict {
     Accepted,
     Rejected(u64, u64),

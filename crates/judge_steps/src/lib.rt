@@ -1,5 +1,7 @@
 // The judge's rules and steps in code. Its tables are lent: rows of three numbers in four slices, so that a line costs no copy of them; its state is the
 // few numbers beside them.
+#![tactic(auto)]
+
 mod lines;
 mod records;
 mod rules;
@@ -9,7 +11,7 @@ use judge_tables::Row;
 pub use lines::step;
 
 // What the lines so far have said, but for the tables: how many rows each has in use.
-#[derive(Drop)]
+#[derive(Clone, Copy)]
 pub struct State {
     pub run: Run,
     pub reservations: usize,
@@ -42,14 +44,14 @@ impl State {
 }
 
 // What a line came to: on to the next one, the rule that it breaks, or what is too large after it.
-#[derive(Drop)]
+#[derive(Clone, Copy)]
 pub enum Outcome {
     On,
     Broken(u64),
     Beyond(u64),
 }
 
-#[derive(Drop)]
+#[derive(Clone, Copy)]
 pub struct Stepped {
     pub state: State,
     pub outcome: Outcome,

@@ -1,5 +1,7 @@
 // Reads a trace from a file, chunk by chunk, and prints the judge's verdict on standard output, and why where it is told to. It holds one chunk, a line and the
 // judge's tables at a time, whatever the length of the input.
+#![tactic(auto)]
+
 mod lines;
 mod words;
 
@@ -21,7 +23,7 @@ use libc::{STDERR_FILENO, STDOUT_FILENO};
 use trace::put_text;
 
 // How far the input is judged after a read of `count` bytes, 0 at its end, and how many bytes of the line under way are kept; or whether the read failed.
-#[derive(Drop)]
+#[derive(Clone, Copy)]
 struct Step {
     progress: Progress,
     count: usize,

@@ -1,12 +1,14 @@
 // The judge's tables: rows of three numbers in a lent slice, the first `count` in use. A question to a table is a walk down its rows, with a function for each
 // test. One filter and one store change all of them.
+#![tactic(auto)]
+
 ghost use Rattle.std.specs.Prelude.{◌≡◌, ◌&&◌, ◌+◌, ◌≤◌, leb};
 ghost use Rattle.lists.specs.Tests.{any, every};
 ghost use Rattle.judge_rules.specs.Ranges.{inside, clear, pages_from};
 ghost use Rattle.judge_tables.specs.Rows.{row_at, rows, put_row, begins, second_is, pair_is, all_are, around, clear_of, stays, no_clash, none_clash, alone, no_handle_twice};
 ghost use Rattle.judge_tables.specs.Promises.{HasRows, Keeps, Leaves};
 
-#[derive(Drop)]
+#[derive(Clone, Copy)]
 pub struct Row {
     pub first: u64,
     pub second: u64,

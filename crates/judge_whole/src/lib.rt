@@ -1,4 +1,6 @@
 // The judge of a trace that stands in memory as a whole.
+#![tactic(auto)]
+
 ghost use Rattle.std.specs.Prelude.{◌≡◌};
 ghost use Rattle.trace.specs.Lines.{lines_of};
 ghost use Rattle.judge_rules.specs.Verdict.{verdict};

@@ -38,3 +38,4 @@ module _ {A : Type 0} (key : A → ℕ) where
       rw (← e, eq-eqb (key x) (key x) refl, without_absent (key x) l rest)
   sum-without-one f x (y ∷ l) d (inr m) =
       rw (ne_eqb (key y) (key x) (member-all (λ z. key y ≡ key z → ⊥) x l m d.0)) (omega (arith, sum-without-one f x l d.1 m))
+  sum-without-one f x [] d x3 = elim x3 [ ]

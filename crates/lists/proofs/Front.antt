@@ -1,5 +1,5 @@
 -- The first of a sorted list is its least, and without it the rest stays sorted.
-use mathlib.Core.Path.{◌≡◌, refl, ap, ◌∙◌}
+use mathlib.Core.Path.{sym, ◌≡◌, refl, ap, ◌∙◌}
 use mathlib.Core.Bool.{Bool, true, false, cond}
 use mathlib.Core.List.{List, [], ◌∷◌, ◌++◌}
 use mathlib.Core.Option.{Option, some, none}
@@ -56,7 +56,8 @@ module _ {A : Type 0} (key by : A → ℕ) where
           put key x (sorted key l) ≡ r ∷ sorted key (without by (by r) (x ∷ l))
       pick y true t q f e =
           let s : x ≡ r = cc in
-          rw (← s, self) (first (sorted key l) (front-sorted key l ∙ q))
+          let w : without by (by r) (x ∷ l) ≡ l = ap (λ (v : A). without by (by v) (x ∷ l)) (sym s) ∙ self in
+          rw (w, ← s) (first (sorted key l) (front-sorted key l ∙ q))
         where
           first : (m : List A) → front m ≡ some y → put key x m ≡ x ∷ m
           first [] w = refl
@@ -69,5 +70,8 @@ module _ {A : Type 0} (key by : A → ℕ) where
 
       go : (o : Option A) → least key l ≡ o → (least key l ≡ some r → sorted key l ≡ r ∷ sorted key (without by (by r) l)) → some (smaller key x o) ≡ some r →
           put key x (sorted key l) ≡ r ∷ sorted key (without by (by r) (x ∷ l))
-      go none q f e = let s : x ≡ r = cc in rw (← s, self, alone q)
+      go none q f e =
+          let s : x ≡ r = cc in
+          let w : without by (by r) (x ∷ l) ≡ l = ap (λ (v : A). without by (by v) (x ∷ l)) (sym s) ∙ self in
+          rw (w, ← s, alone q)
       go (some y) q f e = pick y (leb (key x) (key y)) refl q f e

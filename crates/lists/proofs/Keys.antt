@@ -56,6 +56,7 @@ module _ {A : Type 0} (key : A → ℕ) where
   rises-same b x y (z ∷ l) r (inl p) (inr n) e = absurd (let a : key z < key y = member_above key (key z) y l r.1 n in omega (arith, ap key p))
   rises-same b x y (z ∷ l) r (inr m) (inl q) e = absurd (let a : key z < key x = member_above key (key z) x l r.1 m in omega (arith, ap key q))
   rises-same b x y (z ∷ l) r (inr m) (inr n) e = rises-same (key z) x y l r.1 m n e
+  rises-same b x y [] r x6 _ e = elim x6 [ ]
 
   -- each key is above the bound
   pub rises-at : (b : ℕ) (l : List A) (i : ℕ) (d : A) → Rises key b l → i < length l → b < key (get_or l i d)

@@ -29,3 +29,4 @@ module _ {ℓ ℓ'} {A : Type ℓ} {B : Type ℓ'} (f : A → B) where
 pub member-map : {A B : Type 0} (f : A → B) (x : A) (l : List A) → Member x l → Member (f x) (map f l)
 member-map f x (y ∷ l) (inl e) = inl (ap f e)
 member-map f x (y ∷ l) (inr m) = inr (member-map f x l m)
+member-map {A = A} {B = B} f x [] x'' = elim x'' [ ]

@@ -21,6 +21,7 @@ module _ {A : Type 0} where
   pub member-all : (P : A → Type 0) (x : A) (l : List A) → Member x l → All P l → P x
   member-all P x (y ∷ l) (inl e) a = subst P (sym e) a.0
   member-all P x (y ∷ l) (inr m) a = member-all P x l m a.1
+  member-all P x [] x3 a = elim x3 [ ]
 
   pub all-members : (P : A → Type 0) (l : List A) → ((x : A) → Member x l → P x) → All P l
   all-members P [] f = tt
@@ -37,6 +38,7 @@ module _ {A : Type 0} where
       go true e f (inl q) = (inl q, rw q e)
       go true e f (inr n) = (inr (f n).0, (f n).1)
       go false e f n = (inr (f n).0, (f n).1)
+  member_filter p x [] m = elim m [ ]
 
   pub filter-member : (p : A → Bool) (x : A) (l : List A) → Member x l → p x ≡ true → Member x (filter p l)
   filter-member p x (y ∷ l) (inl q) e = let t : p y ≡ true = rw q at e in rw t (inl q)
@@ -45,6 +47,7 @@ module _ {A : Type 0} where
       go : (b : Bool) → Member x (filter p l) → Member x (cond b (y ∷ filter p l) (filter p l))
       go true n = inr n
       go false n = n
+  filter-member p x [] x3 e = elim x3 [ ]
 
   pub member-first : (p : A → Bool) (x : A) (l : List A) → first p l ≡ some x → Member x l
   member-first p x [] e = let z : ◌≡◌ {A = ℕ} 0 1 = cc in absurd (omega arith)
@@ -59,6 +62,7 @@ module _ {A : Type 0} where
     pub sum-member : (x : A) (l : List A) → Member x l → f x ≤ sum f l
     sum-member x (y ∷ l) (inl e) = omega (arith, ap f e)
     sum-member x (y ∷ l) (inr m) = omega (arith, sum-member x l m)
+    sum-member x [] x'' = elim x'' [ ]
 
     pub member-sum : (l : List A) → 0 < sum f l → (x : A) × (Member x l × (0 < f x))
     member-sum [] h = absurd (omega arith)
@@ -78,6 +82,7 @@ module _ {A : Type 0} where
         go true f (inr n) = inr n
         go false f (inl e) = inr (inl e)
         go false f (inr n) = ⊎_elim (λ e. inl e) (λ k. inr (inr k)) (f n)
+    member-put x y [] (inr x3) = elim x3 [ ]
 
     pub put-member : (x : A) (l : List A) → Member x (put key x l)
     put-member x [] = inl refl
@@ -95,9 +100,11 @@ module _ {A : Type 0} where
         go true f n = inr n
         go false f (inl e) = inl e
         go false f (inr n) = inr (f n)
+    put_keeps x y [] m = elim m [ ]
 
     pub member-sorted : (x : A) (l : List A) → Member x (sorted key l) → Member x l
     member-sorted x (y ∷ l) m = ⊎_elim (λ e. inl e) (λ n. inr (member-sorted x l n)) (member-put x y (sorted key l) m)
+    member-sorted x [] m = elim m [ ]
 
     -- the least is one of them
     pub member-least : (x : A) (l : List A) → least key l ≡ some x → Member x l
@@ -116,6 +123,7 @@ module _ {A : Type 0} where
     pub member_above : (b : ℕ) (x : A) (l : List A) → Rises key b l → Member x l → b < key x
     member_above b x (y ∷ l) r (inl e) = rw e r.0
     member_above b x (y ∷ l) r (inr m) = omega (arith, r.0, member_above (key y) x l r.1 m)
+    member_above b x [] r x4 = elim x4 [ ]
 
     pub without-keeps : (k : ℕ) (x : A) (l : List A) → Member x l → (key x ≡ k → ⊥) → Member x (without key k l)
     without-keeps k x l m h = filter-member (λ y. not (eqb (key y) k)) x l m (rw (ne_eqb (key x) k h))
@@ -132,6 +140,7 @@ module _ {A : Type 0} where
     sum-without f b x (y ∷ l) r (inr m) =
         let apart : key y ≡ key x → ⊥ = λ e. omega (arith, member_above (key y) x l r.1 m) in
         rw (ne_eqb (key y) (key x) apart) (omega (arith, sum-without f (key y) x l r.1 m))
+    sum-without f b x [] r x4 = elim x4 [ ]
 
     pub length_without : (b : ℕ) (x : A) (l : List A) → Rises key b l → Member x l → suc (length (without key (key x) l)) ≡ length l
     length_without b x l r m = omega (arith, sum-without (λ y. 1) b x l r m, length-sum (without key (key x) l), length-sum l)

@@ -1,9 +1,11 @@
 // Lists over any element type: definitions in specs/, laws in proofs/. The code is one step of a scan, which knows of an element its key alone.
+#![tactic(auto)]
+
 ghost use Rattle.std.specs.Prelude.{◌≡◌};
 ghost use Rattle.lists.specs.Scan.{better};
 
 // The best element so far in a scan for the least key: whether there is one, its place and its key.
-#[derive(Drop)]
+#[derive(Clone, Copy)]
 pub struct Best {
     pub found: bool,
     pub at: usize,

@@ -1,5 +1,7 @@
 // The layer that takes sizes in bytes: open, malloc, free, close, over what the pool's own calls promise. Each takes the layer by value and returns it with the
 // outcome, the record count and the answers taken, for every value, every argument, every list of answers and every log.
+#![tactic(auto)]
+
 mod closing;
 mod entry;
 mod freeing;
@@ -17,14 +19,14 @@ use tables::Choice;
 use words::Address;
 
 #[repr(C)]
-#[derive(Drop)]
+#[derive(Clone, Copy)]
 pub struct Manager {
     pub value: manager_rules::Manager,
 }
 
 // `records` were written to the log, `taken` answers were taken.
 #[repr(C)]
-#[derive(Drop)]
+#[derive(Clone, Copy)]
 pub struct Managed {
     pub manager: Manager,
     pub outcome: tables::Outcome,

@@ -1,4 +1,6 @@
 // The parts of a call of the layer that takes bytes: what a size asks for, the figures, the pool's tests at entry, and the records of small buffers.
+#![tactic(auto)]
+
 mod log;
 
 ghost use Rattle.std.specs.Prelude.{◌≡◌, ◌+◌, ◌/◌, ◌<◌, ◌^◌, length};
@@ -12,7 +14,7 @@ pub use log::{drop_record, move_up, small_record, write_drops};
 use manager_rules::Manager;
 
 // What a size in bytes asks for: nothing that there is, a buffer of the driver's own, or so many bytes in whole pages.
-#[derive(Drop)]
+#[derive(Clone, Copy)]
 pub enum Request {
     Unfit,
     Smaller,

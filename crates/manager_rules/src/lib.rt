@@ -1,4 +1,6 @@
 // The layer that takes sizes in bytes, above the pool: its value, and what a call of it hands back. The rules over them are in specs/.
+#![tactic(auto)]
+
 ghost use Rattle.std.specs.Prelude.{◌≡◌};
 ghost use Rattle.manager_rules.specs.Values.{closed_manager, no_small};
 
@@ -6,7 +8,7 @@ use tables::Pool;
 
 // A buffer smaller than a page, which is the driver's own.
 #[repr(C)]
-#[derive(Drop)]
+#[derive(Clone, Copy)]
 pub struct SmallBuffer {
     pub pointer: u64,
     pub size: u64,
@@ -23,7 +25,7 @@ impl SmallBuffer {
 
 // In the order in which they came.
 #[repr(C)]
-#[derive(Drop)]
+#[derive(Clone, Copy)]
 pub struct SmallBuffers {
     pub cells: [SmallBuffer; Manager::SMALLS],
     pub count: usize,
@@ -42,7 +44,7 @@ impl SmallBuffers {
 
 // The bytes that are held now, and the most that ever were.
 #[repr(C)]
-#[derive(Drop)]
+#[derive(Clone, Copy)]
 pub struct Manager {
     pub pool: Pool,
     pub small: SmallBuffers,

@@ -1,10 +1,12 @@
 // What the words behind a program's name ask for: help, files to read, or standard input. A word that begins with `-` and is not `--help` is refused, so
 // that nothing is said of another input than was meant.
+#![tactic(auto)]
+
 ghost use Rattle.io.specs.Counts.{IsPrefixLen};
 
 use libc::{STDERR_FILENO, STDIN_FILENO};
 
-#[derive(Drop)]
+#[derive(Clone, Copy)]
 pub enum Wish {
     Help,
     Refused,
@@ -109,7 +111,7 @@ pub fn open_named(i: usize, name: &mut [u8]) -> Named
     Named { fd, length: n }
 }
 
-#[derive(Drop)]
+#[derive(Clone, Copy)]
 pub struct Named {
     pub fd: i32,
     pub length: usize,

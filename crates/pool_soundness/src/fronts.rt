@@ -4,7 +4,7 @@ ghost use Rattle.pool_soundness.specs.Fronts.{front, no_front, lower_of};
 ghost use Rattle.tables.specs.Bounds.{END};
 
 // The next range of a table; `table` is the table's number.
-#[derive(Drop)]
+#[derive(Clone, Copy)]
 pub struct Front {
     pub from: u64,
     pub size: u64,

@@ -1,4 +1,6 @@
 // docs/RULES.md 5, well formed, as a test of a pool: equal to its definition whatever the counts and numbers.
+#![tactic(auto)]
+
 mod fronts;
 mod names;
 mod numbers;

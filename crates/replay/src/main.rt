@@ -1,4 +1,6 @@
 // Reads a trace, runs its calls on the answers that it lends, and prints its own trace.
+#![tactic(auto)]
+
 use libc::{STDIN_FILENO, STDOUT_FILENO};
 use named_files::Wish;
 

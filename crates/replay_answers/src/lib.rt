@@ -1,4 +1,6 @@
 // The lines of a trace up to the next call: driver lines lend their answers to the call before them; results, and the lines of small buffers, are passed over.
+#![tactic(auto)]
+
 ghost use Rattle.std.specs.Prelude.{◌≡◌, ◌+◌, ◌-◌, ◌<◌, ◌≤◌, ◌^◌, length};
 ghost use Rattle.replay_answers.specs.Lending.{is_passed_over, is_call, value_in};
 ghost use Rattle.replay_answers.specs.Promises.{Room, Lends, Gathers};
@@ -6,7 +8,7 @@ ghost use Rattle.replay_answers.specs.Promises.{Room, Lends, Gathers};
 use trace::{Line, Partial, Reading};
 
 // Why no more lines are gathered: the chunk is read; a call; a malformed line.
-#[derive(Drop)]
+#[derive(Clone, Copy)]
 pub enum Stop {
     More,
     Call(Line),
@@ -14,7 +16,7 @@ pub enum Stop {
 }
 
 // How far the chunk is read, the line that is being read and its number, and how many answers are lent; where a line stopped it, the number is that line's.
-#[derive(Drop)]
+#[derive(Clone, Copy)]
 pub struct Gathered {
     pub at: usize,
     pub partial: Partial,

@@ -1,4 +1,6 @@
 // Replay over bytes: a trace comes in chunks, and its own trace goes out. A turn runs at most one call.
+#![tactic(auto)]
+
 ghost use Rattle.std.specs.Prelude.{◌≡◌, ◌+◌, ◌-◌, ◌*◌, ◌<◌, ◌≤◌, ◌^◌, length};
 ghost use Rattle.tables.specs.Bounds.{LOG};
 ghost use Rattle.tables.specs.Values.{closed_pool};
@@ -60,7 +62,7 @@ fn run(pool: Pool, call: Line, answers: &[u64], log: &mut [u64]) -> Called
 }
 
 // What a call that was due left: the pool, how much of the buffer is filled, and whether it has a result.
-#[derive(Drop)]
+#[derive(Clone, Copy)]
 pub struct Ran {
     pub pool: Pool,
     pub filled: usize,
@@ -97,7 +99,7 @@ fn run_due(
 }
 
 // What a turn did: how far the chunk is read and the buffer filled; after a result, what is shown of the pool comes next.
-#[derive(Drop)]
+#[derive(Clone, Copy)]
 pub struct Step {
     pub pool: Pool,
     pub place: Place,

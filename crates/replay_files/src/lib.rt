@@ -1,4 +1,6 @@
 // What replay prints for each trace that a word behind the program's name names.
+#![tactic(auto)]
+
 use libc::STDOUT_FILENO;
 
 fn one(i: usize, tables: bool, named: bool) {

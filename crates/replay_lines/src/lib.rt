@@ -1,4 +1,6 @@
 // A call that was run, as lines of a trace: its own line, the records of its log, its result.
+#![tactic(auto)]
+
 ghost use Rattle.std.specs.Prelude.{◌≡◌, ◌+◌, ◌*◌, ◌≤◌, length};
 ghost use Rattle.tables.specs.Outcomes.{numbers, is};
 ghost use Rattle.trace.specs.Bounds.{longest_line};

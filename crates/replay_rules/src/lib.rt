@@ -1,1 +1,2 @@
 // Theorems only: what replay prints, as a definition, and its laws.
+#![tactic(auto)]

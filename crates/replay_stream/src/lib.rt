@@ -1,5 +1,7 @@
 // Reads a trace from a file, chunk by chunk, and prints on standard output what replay prints for it, or the same with the pool's tables after each result. It holds
 // one chunk of the input, the answers of one call and its log at a time, whatever the length of the input.
+#![tactic(auto)]
+
 ghost use Rattle.std.specs.Prelude.{◌≡◌, true, false, ◌+◌, ◌≤◌, ◌<◌, ◌^◌, length};
 ghost use Rattle.replay_table_text.specs.Bounds.{longest_tables};
 ghost use Rattle.replay_waiting.specs.Places.{Stands};
@@ -13,7 +15,7 @@ use replay_table_text::put_tables;
 use replay_waiting::Place;
 
 // Where the run stands after a chunk, and whether it goes on; `count` bytes were read.
-#[derive(Drop)]
+#[derive(Clone, Copy)]
 struct State {
     pool: Pool,
     place: Place,

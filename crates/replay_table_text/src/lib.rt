@@ -1,4 +1,6 @@
 // docs/RULES.md 7.6: a pool's tables as text, one entry a line. No count is trusted: of a table at most its cells are printed.
+#![tactic(auto)]
+
 ghost use Rattle.std.specs.Prelude.{◌≡◌, ◌+◌, ◌*◌, ◌≤◌, min, length};
 ghost use Rattle.lists.specs.Walks.{joined};
 ghost use Rattle.tables.specs.Bounds.{PAGES, SPANS, ZOMBIES, HOLES, ROOTS};

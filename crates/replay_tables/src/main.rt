@@ -1,4 +1,6 @@
 // As replay, and after each result line the pool's tables (docs/RULES.md 7.6).
+#![tactic(auto)]
+
 use libc::{STDIN_FILENO, STDOUT_FILENO};
 use named_files::Wish;
 

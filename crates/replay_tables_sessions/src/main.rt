@@ -1,5 +1,7 @@
 // Replays each trace that an argument names, with the pool's tables after each result. Every file of data/ is a session of sessions/, but for those calls of A to N
 // that are answered 6: its expected output is what compare/'s `rust_replay --tables` prints for it.
+#![tactic(auto)]
+
 fn main() {
     replay_files::pump_each(true, true);
 }

@@ -1,4 +1,6 @@
 // Where replay stands between two calls: the line that is being read, and the call that waits for its answers.
+#![tactic(auto)]
+
 ghost use Rattle.std.specs.Prelude.{◌≡◌, ◌+◌, ◌-◌, ◌*◌, ◌<◌, ◌≤◌, ◌^◌, length};
 ghost use Rattle.trace.specs.Bounds.{longest_line};
 ghost use Rattle.replay_answers.specs.Promises.{KEPT};
@@ -9,7 +11,7 @@ use replay_answers::{Stop, gather};
 use trace::{Line, Partial, Reading, put_bad};
 
 // What is read of line `line`; the call that waits, its line number, and how many answers are lent to it; whether there is one, and whether the run is over.
-#[derive(Drop)]
+#[derive(Clone, Copy)]
 pub struct Place {
     pub partial: Partial,
     pub line: u64,
@@ -21,7 +23,7 @@ pub struct Place {
 }
 
 // How far the chunk is read and the buffer filled. If the waiting call is due, it is run with `count` answers, and what follows goes on from `place`.
-#[derive(Drop)]
+#[derive(Clone, Copy)]
 pub struct Advanced {
     pub at: usize,
     pub filled: usize,

@@ -1,4 +1,6 @@
 // Replay of an input that stands in memory as a whole, into a lent buffer.
+#![tactic(auto)]
+
 ghost use Rattle.std.specs.Prelude.{◌≡◌, true, ◌+◌, ◌≤◌, ◌<◌, ◌^◌, length};
 ghost use Rattle.replay_answers.specs.Promises.{KEPT};
 ghost use Rattle.replay_waiting.specs.Places.{is_ended, Stands};
@@ -11,7 +13,7 @@ use replay_waiting::Place;
 use trace::put_bytes;
 
 // How many bytes are written, and whether these are all.
-#[derive(Drop)]
+#[derive(Clone, Copy)]
 pub struct Replayed {
     pub written: usize,
     pub whole: bool,

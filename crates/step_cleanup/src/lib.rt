@@ -1,4 +1,6 @@
 // docs/RULES.md 3.10, cleanup: what each zombie held is unmapped and becomes a hole, once its event is complete.
+#![tactic(auto)]
+
 ghost use Rattle.std.specs.Prelude.{◌+◌, ◌*◌};
 ghost use Rattle.driving.specs.Ran.{RoomFor};
 ghost use Rattle.step_cleanup.specs.Promises.{Cleanable, CleansUp};
@@ -9,7 +11,7 @@ use plain_tables::zombies::swap_out;
 use tables::{Holes, Outcome, Zombies};
 use words::Word;
 
-#[derive(Drop)]
+#[derive(Clone, Copy)]
 pub struct CleanedUp {
     pub zombies: Zombies,
     pub holes: Holes,

@@ -1,4 +1,6 @@
 // docs/RULES.md 3.16, close: what the pool holds goes back to the driver. A stopped pool may hold any numbers: nothing is divided or added with them.
+#![tactic(auto)]
+
 ghost use Rattle.std.specs.Prelude.{◌+◌, ◌*◌, ◌≤◌};
 ghost use Rattle.tables.specs.Values.{zombies_of, pages_of, roots_of};
 ghost use Rattle.tables.specs.Kept.{KeptZombies, KeptPages, KeptRoots};
@@ -13,7 +15,7 @@ use tables::{Outcome, Page, Pages, Pool, Roots, Zombies};
 use words::{Answer, Word};
 
 // `failed` counts the failed lines.
-#[derive(Drop)]
+#[derive(Clone, Copy)]
 pub struct Closing {
     pub failed: usize,
     pub ended: Ended,

@@ -1,4 +1,6 @@
 // docs/RULES.md 3.11, fit: the free region that a buffer comes from, if one is large enough.
+#![tactic(auto)]
+
 ghost use Rattle.std.specs.Prelude.{◌+◌};
 ghost use Rattle.std.proofs.Math.Option.{none};
 ghost use Rattle.tables.specs.Values.{free_of};
@@ -13,7 +15,7 @@ use regions::{best_own, place_of, take_over};
 use tables::{Choice, FreeRegions, Outcome};
 
 // The place of the region found, in the table that is left.
-#[derive(Drop)]
+#[derive(Clone, Copy)]
 pub struct Fitted {
     pub free: FreeRegions,
     pub fit: Choice,
@@ -22,7 +24,7 @@ pub struct Fitted {
 }
 
 // The place of the smallest complete candidate, where the call goes on.
-#[derive(Drop)]
+#[derive(Clone, Copy)]
 pub struct Searched {
     pub choice: Choice,
     pub ended: Ended,

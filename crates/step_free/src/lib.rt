@@ -1,4 +1,6 @@
 // docs/RULES.md 3.15, free, once the buffer is found. The steps hold only the two tables that they change.
+#![tactic(auto)]
+
 ghost use Rattle.std.specs.Prelude.{◌≡◌, ◌+◌};
 ghost use Rattle.driving.specs.Ran.{RoomFor};
 ghost use Rattle.step_free.specs.Promises.{Freeable, FreeRan, freed_outcome};
@@ -8,7 +10,7 @@ use step_insert_free::insert_free;
 use tables::{FreeRegions, LiveBuffer, LiveBuffers, Outcome};
 
 // What a free leaves of the two tables that it changes.
-#[derive(Drop)]
+#[derive(Clone, Copy)]
 pub struct Freed {
     pub live: LiveBuffers,
     pub free: FreeRegions,

@@ -1,4 +1,6 @@
 // docs/RULES.md 3.12: the first bytes of a region are handed over.
+#![tactic(auto)]
+
 ghost use Rattle.step_hand_over.specs.Promises.{Handable, HandsOver};
 
 use plain_tables::buffers::put_buffer;
@@ -7,7 +9,7 @@ use tables::{FreeRegions, LiveBuffer, LiveBuffers};
 use words::Address;
 
 // The buffer starts at `start`.
-#[derive(Drop)]
+#[derive(Clone, Copy)]
 pub struct HandedOver {
     pub free: FreeRegions,
     pub live: LiveBuffers,

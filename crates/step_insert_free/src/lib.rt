@@ -1,4 +1,6 @@
 // docs/RULES.md 3.2, insert free: a range becomes a free region, merged with its neighbours of the same stream, under a fresh event.
+#![tactic(auto)]
+
 ghost use Rattle.std.specs.Prelude.{◌+◌};
 ghost use Rattle.driving.specs.Ran.{RoomFor};
 ghost use Rattle.step_insert_free.specs.Promises.{Insertable, Inserts};
@@ -9,7 +11,7 @@ use tables::{FreeRegion, FreeRegions};
 use words::{Address, EventId, Word};
 
 // The region that was made, where the call goes on.
-#[derive(Drop)]
+#[derive(Clone, Copy)]
 pub struct FreeInserted {
     pub free: FreeRegions,
     pub counter: u64,

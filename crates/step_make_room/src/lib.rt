@@ -1,5 +1,7 @@
 // docs/RULES.md 4.3, 3.9: what is refused before room is made; and make room: a range is taken, the missing pages are made in it, and other regions are
 // pulled into the rest.
+#![tactic(auto)]
+
 ghost use Rattle.std.specs.Prelude.{◌+◌};
 ghost use Rattle.tables.specs.MakeRoom.{make_room};
 ghost use Rattle.driving.specs.Ran.{RoomFor};

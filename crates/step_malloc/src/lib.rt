@@ -1,4 +1,6 @@
 // docs/RULES.md 3.14, malloc, once it is admitted.
+#![tactic(auto)]
+
 ghost use Rattle.std.specs.Prelude.{◌+◌};
 ghost use Rattle.tables.specs.Malloc.{malloc_steps};
 ghost use Rattle.driving.specs.Ran.{RoomFor};

@@ -1,4 +1,6 @@
 // docs/RULES.md 3.8: the pages of the parts pulled are mapped where room is made, and active there instead.
+#![tactic(auto)]
+
 ghost use Rattle.std.specs.Prelude.{◌+◌, ◌/◌, length};
 ghost use Rattle.tables.specs.Pull.{pages_in};
 ghost use Rattle.driving.specs.Ran.{RoomFor};
@@ -9,7 +11,7 @@ use plain_tables::pages::{handle_at, with_moved, without_page};
 use tables::{Pages, Zombie, Zombies};
 use words::{Address, Word};
 
-#[derive(Drop)]
+#[derive(Clone, Copy)]
 pub struct Moved {
     pub pages: Pages,
     pub ended: Ended,

@@ -1,4 +1,6 @@
 // docs/RULES.md 3.4, 3.5: the missing pages of a request are created and mapped, or all are taken back. Each function walks its rule.
+#![tactic(auto)]
+
 ghost use Rattle.std.specs.Prelude.{◌≡◌};
 ghost use Rattle.step_new_pages.specs.Promises.{is_new, stopped_at, Unmakable, Unmakes, Returnable, RollsBack, Ready, MakesPages};
 
@@ -9,7 +11,7 @@ use tables::{Holes, Outcome, Page, Pages};
 use words::{Address, Answer, Handle, Word};
 
 // The range taken for a request: where it starts, its size, how much of it is missing, and for which stream.
-#[derive(Drop)]
+#[derive(Clone, Copy)]
 pub struct Room {
     pub start: Address,
     pub size: u64,
@@ -18,14 +20,14 @@ pub struct Room {
 }
 
 // What one page leaves.
-#[derive(Drop)]
+#[derive(Clone, Copy)]
 pub struct Paged {
     pub pages: Pages,
     pub ended: Ended,
     pub made: usize,
 }
 
-#[derive(Drop)]
+#[derive(Clone, Copy)]
 pub struct PagesMade {
     pub pages: Pages,
     pub holes: Holes,

@@ -1,4 +1,6 @@
 // docs/RULES.md 3.9, its first half: a range is taken, its missing pages are made and inserted as free.
+#![tactic(auto)]
+
 ghost use Rattle.std.specs.Prelude.{◌≡◌, ◌+◌, ◌-◌};
 ghost use Rattle.driving.specs.Ran.{RoomFor};
 ghost use Rattle.step_new_room.specs.Promises.{take_room_calls, Roomable, TakesRoom, Insertable, InsertsNew};
@@ -11,7 +13,7 @@ use tables::Pool;
 use words::Word;
 
 // The range taken, its missing pages made, where the call goes on.
-#[derive(Drop)]
+#[derive(Clone, Copy)]
 pub struct RoomTaken {
     pub pool: Pool,
     pub room: Room,

@@ -1,4 +1,6 @@
 // docs/RULES.md 3.13, open, once its configuration is allowed: one root, one hole, and the initial pages.
+#![tactic(auto)]
+
 ghost use Rattle.std.specs.Prelude.{◌≡◌};
 ghost use Rattle.tables.specs.Values.{opened, pool_of, no_tables};
 ghost use Rattle.tables.specs.Open.{open_steps};

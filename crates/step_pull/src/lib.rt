@@ -1,4 +1,6 @@
 // docs/RULES.md 3.7: what lacks is pulled out of other regions.
+#![tactic(auto)]
+
 ghost use Rattle.std.specs.Prelude.{◌≡◌, ◌+◌, ◌*◌, length};
 ghost use Rattle.driving.specs.Ran.{RoomFor};
 ghost use Rattle.step_pull.specs.Promises.{Settles, part_of, to_pull, Pullable, Pulls};
@@ -10,13 +12,13 @@ use regions::{Made, next_to_pull};
 use tables::{Choice, FreeRegion, FreeRegions, Outcome, Zombie, Zombies};
 use words::Word;
 
-#[derive(Drop)]
+#[derive(Clone, Copy)]
 struct Settled {
     pub ended: Ended,
     pub made: usize,
 }
 
-#[derive(Drop)]
+#[derive(Clone, Copy)]
 pub struct Pulled {
     pub free: FreeRegions,
     pub zombies: Zombies,

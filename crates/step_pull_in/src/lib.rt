@@ -1,4 +1,6 @@
 // docs/RULES.md 3.7, 3.8: other regions are pulled, their pages follow the new ones, and what they fill is inserted as free.
+#![tactic(auto)]
+
 ghost use Rattle.std.specs.Prelude.{◌+◌};
 ghost use Rattle.tables.specs.Values.{free_of};
 ghost use Rattle.tables.specs.Pull.{pull_in};

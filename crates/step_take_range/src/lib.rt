@@ -1,4 +1,6 @@
 // docs/RULES.md 3.3: a range is taken from a hole, or from a new root.
+#![tactic(auto)]
+
 ghost use Rattle.std.specs.Prelude.{◌≡◌, ◌+◌, ◌<◌};
 ghost use Rattle.tables.specs.Bounds.{ROOTS};
 ghost use Rattle.tables.specs.TakeRange.{reserve_root, take_range};
@@ -12,7 +14,7 @@ use tables::{Choice, Holes, Outcome, Roots};
 use words::{Address, Answer};
 
 // The range taken starts at `start`, where the call goes on.
-#[derive(Drop)]
+#[derive(Clone, Copy)]
 pub struct Took {
     pub holes: Holes,
     pub roots: Roots,

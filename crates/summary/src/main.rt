@@ -1,4 +1,6 @@
 // Prints a summary of each trace that is named, or of standard input: what support looks at first.
+#![tactic(auto)]
+
 use libc::{STDIN_FILENO, STDOUT_FILENO};
 use named_files::Wish;
 

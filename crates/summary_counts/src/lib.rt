@@ -1,4 +1,6 @@
 // What a summary counts of a trace, a line at a time: answers by call and number, failed driver lines by word, and the peaks of live and of mapped bytes.
+#![tactic(auto)]
+
 ghost use Rattle.std.specs.Prelude.{◌≡◌};
 ghost use Rattle.summary_counts.specs.Taking.{at_start};
 
@@ -12,14 +14,14 @@ use judge_steps::{Outcome, State};
 pub use lines::take;
 
 // The most that an amount was, and the line at which it first was that.
-#[derive(Drop)]
+#[derive(Clone, Copy)]
 pub struct Peak {
     pub most: u64,
     pub line: u64,
 }
 
 // The counts beside the tables: the lines so far, the peaks of live bytes and of mapped bytes.
-#[derive(Drop)]
+#[derive(Clone, Copy)]
 pub struct Counts {
     pub lines: u64,
     pub live: Peak,
@@ -27,7 +29,7 @@ pub struct Counts {
 }
 
 // What a summary holds beside its tables and the judge's: the judge's state, the counts, and how many rows of hand-overs are in use.
-#[derive(Drop)]
+#[derive(Clone, Copy)]
 pub struct Sums {
     pub state: State,
     pub counts: Counts,
@@ -35,7 +37,7 @@ pub struct Sums {
 }
 
 // What a line came to.
-#[derive(Drop)]
+#[derive(Clone, Copy)]
 pub struct Taken {
     pub sums: Sums,
     pub outcome: Outcome,

@@ -1,5 +1,7 @@
 // Reads a trace from a file, chunk by chunk, and prints a summary of it on standard output. It holds one chunk, the judge's tables and the summary's at a
 // time, whatever the length of the input.
+#![tactic(auto)]
+
 ghost use Rattle.std.specs.Prelude.{◌≡◌, ◌<◌, length};
 ghost use Rattle.judge_steps.specs.State.{lent};
 ghost use Rattle.judge_steps.specs.Promises.{left};
@@ -18,7 +20,7 @@ use summary_counts::{Counts, Sums, take};
 use trace::{Partial, Reading};
 
 // How far a trace is read: the lines that the judge took, the part of a line that was read, and what the last line came to.
-#[derive(Drop)]
+#[derive(Clone, Copy)]
 pub struct Progress {
     pub sums: Sums,
     pub partial: Partial,
@@ -26,14 +28,14 @@ pub struct Progress {
 }
 
 // How far a chunk is read.
-#[derive(Drop)]
+#[derive(Clone, Copy)]
 struct Fed {
     progress: Progress,
     at: usize,
 }
 
 // How far the input is read after a read of `count` bytes, 0 at its end, or whether the read failed.
-#[derive(Drop)]
+#[derive(Clone, Copy)]
 struct Step {
     progress: Progress,
     count: usize,

@@ -1,4 +1,6 @@
 // The pool value: its tables, each with cells and a count, and what a call answers. The rules over them are in specs/.
+#![tactic(auto)]
+
 ghost use Rattle.std.specs.Prelude.{◌≡◌};
 ghost use Rattle.tables.specs.Outcomes.{answers, numbers};
 ghost use Rattle.tables.specs.Values.{closed_pool};
@@ -8,7 +10,7 @@ use words::{Address, EventId, Handle};
 
 // A free region: the last event of its pages, and the stream that it is on.
 #[repr(C)]
-#[derive(Drop)]
+#[derive(Clone, Copy)]
 pub struct FreeRegion {
     pub start: Address,
     pub size: u64,
@@ -17,7 +19,7 @@ pub struct FreeRegion {
 }
 
 #[repr(C)]
-#[derive(Drop)]
+#[derive(Clone, Copy)]
 pub struct LiveBuffer {
     pub start: Address,
     pub size: u64,
@@ -26,7 +28,7 @@ pub struct LiveBuffer {
 
 // A reserved range with nothing mapped.
 #[repr(C)]
-#[derive(Drop)]
+#[derive(Clone, Copy)]
 pub struct Hole {
     pub start: Address,
     pub size: u64,
@@ -34,7 +36,7 @@ pub struct Hole {
 
 // A range whose pages were mapped elsewhere, to be unmapped when the event is complete.
 #[repr(C)]
-#[derive(Drop)]
+#[derive(Clone, Copy)]
 pub struct Zombie {
     pub start: Address,
     pub size: u64,
@@ -43,7 +45,7 @@ pub struct Zombie {
 
 // An active page.
 #[repr(C)]
-#[derive(Drop)]
+#[derive(Clone, Copy)]
 pub struct Page {
     pub start: Address,
     pub handle: Handle,
@@ -90,42 +92,42 @@ impl Page {
 }
 
 #[repr(C)]
-#[derive(Drop)]
+#[derive(Clone, Copy)]
 pub struct FreeRegions {
     pub cells: [FreeRegion; Pool::SPANS],
     pub count: usize,
 }
 
 #[repr(C)]
-#[derive(Drop)]
+#[derive(Clone, Copy)]
 pub struct LiveBuffers {
     pub cells: [LiveBuffer; Pool::SPANS],
     pub count: usize,
 }
 
 #[repr(C)]
-#[derive(Drop)]
+#[derive(Clone, Copy)]
 pub struct Holes {
     pub cells: [Hole; Pool::HOLES],
     pub count: usize,
 }
 
 #[repr(C)]
-#[derive(Drop)]
+#[derive(Clone, Copy)]
 pub struct Zombies {
     pub cells: [Zombie; Pool::ZOMBIES],
     pub count: usize,
 }
 
 #[repr(C)]
-#[derive(Drop)]
+#[derive(Clone, Copy)]
 pub struct Pages {
     pub cells: [Page; Pool::PAGES],
     pub count: usize,
 }
 
 #[repr(C)]
-#[derive(Drop)]
+#[derive(Clone, Copy)]
 pub struct Roots {
     pub cells: [Address; Pool::ROOTS],
     pub count: usize,
@@ -133,7 +135,7 @@ pub struct Roots {
 
 // `state` is 0 closed, 1 open, 2 stopped; `page` is the page size, `va` the size of each root, `counter` the next event id.
 #[repr(C)]
-#[derive(Drop)]
+#[derive(Clone, Copy)]
 pub struct Pool {
     pub state: u64,
     pub page: u64,
@@ -239,14 +241,14 @@ impl Pool {
 }
 
 // The place of an entry in a table, or none.
-#[derive(Drop)]
+#[derive(Clone, Copy)]
 pub enum Choice {
     At(usize),
     Nothing,
 }
 
 // What a call answers.
-#[derive(Drop)]
+#[derive(Clone, Copy)]
 pub enum Outcome {
     Opened(Address, u64),
     Allocated(Address, u64),
@@ -275,7 +277,7 @@ pub enum Outcome {
 }
 
 // The number of an outcome, and its two values: all that a trace, C and Rust see of it.
-#[derive(Drop)]
+#[derive(Clone, Copy)]
 pub struct Numbers {
     pub number: u64,
     pub first: u64,

@@ -1,4 +1,6 @@
 // The text of a trace: a line in, a line out.
+#![tactic(auto)]
+
 ghost use Rattle.std.specs.Prelude.{◌≡◌, ◌∷◌, [], ◌+◌, ◌≤◌, ◌<◌, length, drop};
 ghost use Rattle.trace.specs.Form.{word, last_kind, decimal, text, printed, bad_line, short_line, ReadAs};
 ghost use Rattle.trace.specs.Bounds.{longest_field, longest_with, longest_line};
@@ -9,7 +11,7 @@ ghost use Rattle.trace.specs.Put.{Put};
 
 // A line of a trace: the number of its word, and its three numbers.
 #[repr(C)]
-#[derive(Drop)]
+#[derive(Clone, Copy)]
 pub struct Line {
     pub kind: u64,
     pub first: u64,
@@ -18,14 +20,14 @@ pub struct Line {
 }
 
 // What is read where a line should stand.
-#[derive(Drop)]
+#[derive(Clone, Copy)]
 pub enum Reading {
     Good(Line),
     Malformed,
 }
 
 // What stands before the number that is being read: the kind, then the numbers so far.
-#[derive(Drop)]
+#[derive(Clone, Copy)]
 pub enum Before {
     Kind(u64),
     First(u64, u64),
@@ -34,7 +36,7 @@ pub enum Before {
 
 // What is known of a line of which a part is read: the letters of its word so far, as a number in base 256 whose last eight digits stand apart; a tab; the digits
 // of a number so far.
-#[derive(Drop)]
+#[derive(Clone, Copy)]
 pub enum Partial {
     Letters(u64, u64),
     Tab(Before),
@@ -43,7 +45,7 @@ pub enum Partial {
 }
 
 // How far a line goes in a chunk of the input: the place after what was read, and whether its line feed was met.
-#[derive(Drop)]
+#[derive(Clone, Copy)]
 pub struct Reach {
     pub at: usize,
     pub partial: Partial,

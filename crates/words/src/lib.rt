@@ -1,24 +1,26 @@
 // What passes between a call and the driver: addresses, handles and event ids, the driver's words, its lent answers, and the records of the log.
+#![tactic(auto)]
+
 ghost use Rattle.std.specs.Prelude.{◌∷◌, [], ◌≡◌, ◌+◌, ◌*◌, ◌≤◌, length, drop};
 ghost use Rattle.words.specs.Words.{number as number_of};
 ghost use Rattle.words.specs.Answers.{of_pair, lent, code_of, value_of, taken_after, moved_on};
 ghost use Rattle.words.specs.Log.{written};
 
 #[repr(C)]
-#[derive(Drop)]
+#[derive(Clone, Copy)]
 pub struct Address(pub u64);
 
 // A page of the card's memory, wherever it is mapped.
 #[repr(C)]
-#[derive(Drop)]
+#[derive(Clone, Copy)]
 pub struct Handle(pub u64);
 
 #[repr(C)]
-#[derive(Drop)]
+#[derive(Clone, Copy)]
 pub struct EventId(pub u64);
 
 // The driver's calls.
-#[derive(Drop)]
+#[derive(Clone, Copy)]
 pub enum Word {
     Reserve,
     Create,
@@ -54,7 +56,7 @@ impl Word {
 }
 
 // A lent answer: the value of a success, the code of a failure, or none left.
-#[derive(Drop)]
+#[derive(Clone, Copy)]
 pub enum Answer {
     Done(u64),
     Failed(u64),
@@ -119,7 +121,7 @@ fn taken_after(answers: &[u64], taken: usize) -> usize
 }
 
 // Reads the lent answers in turn: its place is behind those that were taken.
-#[derive(Drop)]
+#[derive(Clone, Copy)]
 pub struct Reader<'a> {
     answers: &'a [u64],
     place: usize,
@@ -165,7 +167,7 @@ pub fn answer_after(answers: &[u64], taken: usize) -> Answer
 
 // A record of the log.
 #[repr(C)]
-#[derive(Drop)]
+#[derive(Clone, Copy)]
 pub struct Record {
     pub kind: u64,
     pub first: u64,
