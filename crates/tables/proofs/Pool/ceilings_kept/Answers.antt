@@ -9,31 +9,11 @@ use lib.Dec.{leb}
 use Rattle.tables.specs.Bounds.{HOLES, PAGES, ROOTS, SPANS, ZOMBIES}
 use Rattle.tables.specs.WellFormed.{ceilings_kept}
 use Rattle.tables.specs.declared.Pool.{Pool}
-use Rattle.tables.proofs.Pool.ceilings_kept.Statement.{statement}
-use Rattle.tables.proofs.Pool.ceilings_kept.Tie as tie
-
-returns : tie.Need-returns
-unfolding ceilings_kept
-returns c = rw (lt-leb _ PAGES c.if1.true)
+use Rattle.tables.proofs.Pool.ceilings_kept.Goals as goal
 
 too_many : (p : Pool) → p.pages.count ≤ PAGES → SPANS < p.free.count + p.live.count → false ≡ ceilings_kept p
 unfolding ceilings_kept
 too_many p h k = rw (le-leb p.pages.count PAGES h, lt-leb (p.free.count + p.live.count) SPANS k)
-
-returns-2 : tie.Need-returns-2
-returns-2 c = too_many c.before.before.before.before.args.self (omega arith) (omega arith)
-
-returns-3 : tie.Need-returns-3
-returns-3 c = too_many c.before.before.before.before.before.before.before.args.self (omega arith) (omega arith)
-
-returns-4 : tie.Need-returns-4
-unfolding ceilings_kept
-returns-4 c =
-    let p = c.before.before.before.before.before.before.before.before.before.args.self in
-    rw (le-leb p.pages.count PAGES (omega arith), le-leb (p.free.count + p.live.count) SPANS (omega arith), lt-leb _ ZOMBIES c.if4.true)
-
-sub-if5 : tie.Need-overflow-sub-if5
-sub-if5 c = search rules
 
 -- with pages, spans and zombies within theirs
 others : (p : Pool) → p.pages.count ≤ PAGES → p.free.count + p.live.count ≤ SPANS → p.zombies.count ≤ ZOMBIES →
@@ -41,16 +21,28 @@ others : (p : Pool) → p.pages.count ≤ PAGES → p.free.count + p.live.count 
 unfolding ceilings_kept
 others p h k z = rw (le-leb p.pages.count PAGES h, le-leb (p.free.count + p.live.count) SPANS k, le-leb p.zombies.count ZOMBIES z)
 
-returns-5 : tie.Need-returns-5
-returns-5 c =
-    let p = c.before.before.before.before.before.before.before.before.before.before.before.before.args.self in
+pub returns-then-self-gt-PAGES : goal.returns-then-self-gt-PAGES
+unfolding ceilings_kept
+returns-then-self-gt-PAGES c = rw (lt-leb _ PAGES c.if-self-gt-PAGES.true)
+
+pub returns-then-self-gt-SPANS : goal.returns-then-self-gt-SPANS
+returns-then-self-gt-SPANS c = too_many c.args.self (omega arith) (omega arith)
+
+pub returns-then-self : goal.returns-then-self
+returns-then-self c = too_many c.args.self (omega arith) (omega arith)
+
+pub returns-then-self-gt-ZOMBIES : goal.returns-then-self-gt-ZOMBIES
+unfolding ceilings_kept
+returns-then-self-gt-ZOMBIES c =
+    let p = c.args.self in
+    rw (le-leb p.pages.count PAGES (omega arith), le-leb (p.free.count + p.live.count) SPANS (omega arith), lt-leb _ ZOMBIES c.if-self-gt-ZOMBIES.true)
+
+pub returns-then-self-2 : goal.returns-then-self-2
+returns-then-self-2 c =
+    let p = c.args.self in
     rw (others p (omega arith) (omega arith) (omega arith), lt-leb (p.holes.count + p.zombies.count) HOLES (omega arith))
 
-returns-6 : tie.Need-returns-6
-returns-6 c =
-    let p = c.before.before.before.before.before.before.before.before.before.before.before.before.before.args.self in
+pub returns : goal.returns
+returns c =
+    let p = c.args.self in
     rw (others p (omega arith) (omega arith) (omega arith), le-leb (p.holes.count + p.zombies.count) HOLES (omega arith))
-
-pub ceilings-kept-spec : {M : Type 1} → statement M
-ceilings-kept-spec =
-    tie.close (tie.spec returns returns-2 returns-3 returns-4 sub-if5 returns-5 returns-6)
