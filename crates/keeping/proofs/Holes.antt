@@ -174,6 +174,7 @@ Starts s (h ∷ l) = (from h ≡ s) ⊎ Starts s l
 starts_above : (b m s : ℕ) (l : List Hole) → Apart b m l → Starts s l → b < s
 starts_above b m s (h ∷ l) w (inl e) = omega arith
 starts_above b m s (h ∷ l) w (inr i) = omega (arith, starts_above (upto h) m s l w.1.1 i)
+starts_above b m s [] w x'' = elim x'' [ ]
 
 starts-glue : (s : ℕ) (h : Hole) (l : List Hole) → (upto h ≡ s → ⊥) → Starts s l → Starts s (glue h l)
 starts-glue s h (k ∷ l) ne i =
@@ -181,6 +182,7 @@ starts-glue s h (k ∷ l) ne i =
     (λ e. rw (eq-eqb (upto h) (from k) e) (⊎_elim (λ q. absurd (ne (omega arith))) (λ j. inr j) i))
     (λ e. rw (ne_eqb (upto h) (from k) e) (inr i))
     (cases_eq (upto h) (from k))
+starts-glue s h [] ne i = elim i [ ]
 
 glue-starts : (h : Hole) (l : List Hole) → Starts (from h) (glue h l)
 glue-starts h [] = inl refl
@@ -212,6 +214,7 @@ ends_nowhere x b m (h ∷ l) w c = (
 )
 
 length_touch : (a n b m : ℕ) (l : List Hole) → 0 < n → Apart b m l → All (Clear a n) l → Starts (a + n) l → length (insert_range a n l) ≤ length l
+length_touch a n b m [] p w c i = elim i [ ]
 length_touch a n b m (h ∷ l) p w c i =
     ⊎_elim
     (λ s. rw (lt-ltb a (from h) s, eq-eqb (a + n) (from h) (first s i)) (omega arith))
@@ -253,6 +256,7 @@ apart-rises b m (h ∷ l) w = (w.0, rises-below from (from h) (upto h) l (omega 
 pub cover-cut_hole : (n b m : ℕ) (h : Hole) (l : List Hole) (x : ℕ) → Apart b m l → Member h l → n ≤ h.size →
     cover_holes (cut_hole n (from h) l) x + within (from h) n x ≡ cover_holes l x
 unfolding cut_hole
+cover-cut_hole n b m h [] x w x5 p = elim x5 [ ]
 cover-cut_hole n b m h (k ∷ l) x w (inl e) p = rw (← e, eq-eqb (from h) (from h) refl) (go (eqb h.size n) refl)
   where
     go : (t : Bool) → eqb h.size n ≡ t →
@@ -265,6 +269,7 @@ cover-cut_hole n b m h (k ∷ l) x w (inr i) p =
 
 pub apart-cut_hole : (n b m : ℕ) (h : Hole) (l : List Hole) → Apart b m l → Member h l → n ≤ h.size → Apart b m (cut_hole n (from h) l)
 unfolding cut_hole
+apart-cut_hole n b m h [] w x3 p = elim x3 [ ]
 apart-cut_hole n b m h (k ∷ l) w (inl e) p = rw (← e, eq-eqb (from h) (from h) refl) (go (rw (← e) at w) (eqb h.size n) refl)
   where
     go : Apart b m (h ∷ l) → (t : Bool) → eqb h.size n ≡ t → Apart b m (cond t l (hole (from h + n) (h.size - n) ∷ l))
@@ -279,6 +284,7 @@ apart-cut_hole n b m h (k ∷ l) w (inr i) p =
 
 pub all-cut_hole : (p n b m : ℕ) (h : Hole) (l : List Hole) → Apart b m l → Member h l → n ≤ h.size → Whole p n → AllWhole p l → AllWhole p (cut_hole n (from h) l)
 unfolding cut_hole
+all-cut_hole p n b m h [] w x5 q v c = elim x5 [ ]
 all-cut_hole p n b m h (k ∷ l) w (inl e) q v c = rw (← e, eq-eqb (from h) (from h) refl) (go (rw (← e) at c) (eqb h.size n) refl)
   where
     go : AllWhole p (h ∷ l) → (t : Bool) → eqb h.size n ≡ t → AllWhole p (cond t l (hole (from h + n) (h.size - n) ∷ l))

@@ -42,6 +42,7 @@ handle_at-is b g (k ∷ l) r (inl e) = rw (← e, eq-eqb (at g) (at g) refl)
 handle_at-is b g (k ∷ l) r (inr m) =
     let apart : at k ≡ at g → ⊥ = λ e. omega (arith, member_above at (at k) g l r.1 m) in
     rw (ne_eqb (at k) (at g) apart) (handle_at-is (at k) g l r.1 m)
+handle_at-is b g [] r x'' = elim x'' [ ]
 
 -- the tables without the page at `b`, and with it at `a`
 abbrev pub unpaged : ℕ → Tables → Tables

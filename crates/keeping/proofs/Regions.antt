@@ -86,6 +86,7 @@ module _ (a n : ℕ) where
         within_join a n k.size x,
         ap (λ v. within v k.size x) g,
       ))
+  cover-merged (q ∷ (k ∷ (_ ∷ _))) x11 x = elim x11 [ ]
 
   -- the merged region ends with the range, where none is next
   pub ends-merged : (l : List FreeRegion) → Beside a n l → All (λ q. from q ≡ a + n → ⊥) l → least_of a l + (n + bytes l) ≡ a + n
@@ -93,3 +94,4 @@ module _ (a n : ℕ) where
   ends-merged (q ∷ []) (next h) w = absurd (w.0 h)
   ends-merged (q ∷ []) (previous h) w = omega arith
   ends-merged (q ∷ k ∷ []) (between h g) w = absurd (w.1.0 g)
+  ends-merged (q ∷ (k ∷ (_ ∷ _))) x8 w = elim x8 [ ]
