@@ -8,7 +8,7 @@ use lib.Seq.{get_or-take}
 use Rattle.lists.proofs.Filled.{take-packed, filled-packed, filled-count}
 use Rattle.words.specs.declared.Address.{Address}
 use Rattle.tables.specs.Bounds.{HOLES, PAGES, ROOTS, SPANS, ZOMBIES}
-use Rattle.tables.specs.Values.{Tables, tables_of, pool_of, closed_pool, free_of, pack_free, live_of, pack_live, holes_of, pack_holes, zombies_of, pack_zombies, pages_of, pack_pages, roots_of, pack_roots, page, empty_root, empty_buffer, empty_hole, empty_page, empty_region, empty_zombie}
+use Rattle.tables.specs.Values.{Tables, tables_of, pool_of, closed_pool, free_of, pack_free, live_of, pack_live, holes_of, pack_holes, zombies_of, pack_zombies, pages_of, pack_pages, roots_of, pack_roots, empty_root, empty_buffer, empty_hole, empty_page, empty_region, empty_zombie}
 use Rattle.tables.specs.Kept.{KeptFree, KeptLive, KeptHoles, KeptZombies, KeptPages, KeptRoots, KeptPool}
 use Rattle.tables.specs.declared.FreeRegion.{FreeRegion}
 use Rattle.tables.specs.declared.FreeRegions.{FreeRegions}

@@ -4,7 +4,7 @@ use Rattle.std.proofs.Math.Option.{Option, some, none}
 use Rattle.lists.specs.Tests.{first}
 use Rattle.lists.specs.Order.{without}
 use Rattle.tables.specs.Values.{address, at_entry}
-use Rattle.tables.specs.Steps.{Step, ◌>>=◌, ◌>>◌, give, change_live}
+use Rattle.tables.specs.Steps.{Step, ◌>>◌, give, change_live}
 use Rattle.tables.specs.InsertFree.{insert_free}
 use Rattle.tables.specs.HandsBack.{Reply, refused, finished, admitted}
 use Rattle.tables.specs.declared.LiveBuffer.{LiveBuffer}
