@@ -18,7 +18,7 @@ use Rattle.lists.proofs.Order.{length-sorted, sorted-ascends}
 use Rattle.tables.specs.Bounds.{END, HOLES, PAGES, ROOTS, SPANS, ZOMBIES}
 use Rattle.tables.specs.Values.{Tables, tables_of, in_order, at_entry, opened, stopped, free_of, live_of, holes_of, zombies_of, pages_of, roots_of}
 use Rattle.tables.specs.InsertHole.{from, upto, Apart}
-use Rattle.tables.specs.WellFormed.{range, spans, ranges, ceilings_kept, sound, well_formed}
+use Rattle.tables.specs.WellFormed.{range, ranges, ceilings_kept, sound, well_formed}
 use Rattle.tables.specs.declared.Hole.{Hole}
 use Rattle.tables.specs.declared.Pool.{Pool}
 use Rattle.keeping.specs.Cover.{within, equal, cover_free, cover_live, pages_at, keys_at}

@@ -17,7 +17,7 @@ use Rattle.lists.proofs.Pairs.{rises_above, pairs_implies, pairs-map, rises-pair
 use Rattle.lists.proofs.Order.{sorted-ascends, sorted-same, rises-ascends}
 use Rattle.lists.proofs.Maps.{sum-map}
 use Rattle.tables.specs.Bounds.{END, HOLES, PAGES, ROOTS, SPANS, ZOMBIES}
-use Rattle.tables.specs.Values.{page, Tables, in_order, at_entry, pool_of, opened, pack_free, pack_live, pack_holes, pack_zombies, pack_pages, pack_roots}
+use Rattle.tables.specs.Values.{Tables, in_order, at_entry, pool_of, opened, pack_free, pack_live, pack_holes, pack_zombies, pack_pages, pack_roots}
 use Rattle.tables.specs.InsertHole.{from, upto, Apart}
 use Rattle.tables.specs.WellFormed.{spans, ranges, holes_in, ceilings_kept, sound, well_formed}
 use Rattle.tables.specs.declared.Hole.{Hole}

@@ -2,7 +2,6 @@
 use mathlib.Core.Path.{sym}
 use native.Mathlib.Omega.{arith}
 use Rattle.words.proofs.Answers.{taken_more, taken-same}
-use borrow.Author.Rules.{rules}
 use Rattle.words.proofs.taken_after.Goals as goal
 
 pub returns-then-pairs-taken : goal.returns-then-pairs-taken

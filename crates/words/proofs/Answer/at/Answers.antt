@@ -2,7 +2,6 @@
 use mathlib.Core.Path.{sym, ◌∙◌}
 use native.Mathlib.Omega.{arith}
 use Rattle.words.proofs.Answers.{lent_pair, lent-missing}
-use borrow.Author.Rules.{rules}
 use Rattle.words.proofs.Answer.at.Goals as goal
 
 pub returns-then-pairs-made : goal.returns-then-pairs-made

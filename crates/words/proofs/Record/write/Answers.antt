@@ -1,6 +1,5 @@
 -- `words::Record::write` meets its contract, by the promise of `put` on the rest of the log.
 use Rattle.words.proofs.Log.{written_one}
-use borrow.Author.Rules.{rules}
 use Rattle.words.proofs.Record.write.Goals as goal
 
 pub returns : goal.returns
