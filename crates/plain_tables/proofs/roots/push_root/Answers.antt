@@ -7,21 +7,10 @@ use Rattle.lists.proofs.Filled.{filled-count}
 use Rattle.lists.proofs.Pushed.{pushed, length_push}
 use Rattle.tables.specs.Bounds.{ROOTS}
 use Rattle.tables.specs.Values.{roots_of, pack_roots, empty_root}
-use borrow.Author.Rules.{rules}
 use native.Mathlib.Omega.{arith}
-use Rattle.plain_tables.proofs.roots.push_root.Statement.{statement}
-use Rattle.plain_tables.proofs.roots.push_root.Tie as tie
+use Rattle.plain_tables.proofs.roots.push_root.Goals as goal
 
-mul-base : tie.Need-overflow-mul-base
-mul-base c = search rules
-
-element-set-from-base : tie.Need-element-set-from-base
-element-set-from-base c = search rules
-
-add-out : tie.Need-overflow-add-out
-add-out c = search rules
-
-returns : tie.Need-returns
+pub returns : goal.returns
 unfolding roots_of pack_roots
 returns c =
     let a = c.args in
@@ -32,6 +21,3 @@ returns c =
       cells = pushed ROOTS empty_root k.0 k.1 a.base i;
       count = n i;
     }
-
-pub push-root-spec : {M : Type 1} → statement M
-push-root-spec = tie.close (tie.spec mul-base element-set-from-base add-out returns)

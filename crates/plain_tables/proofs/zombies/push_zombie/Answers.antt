@@ -7,21 +7,10 @@ use Rattle.lists.proofs.Filled.{filled-count}
 use Rattle.lists.proofs.Pushed.{pushed, length_push}
 use Rattle.tables.specs.Bounds.{ZOMBIES}
 use Rattle.tables.specs.Values.{zombies_of, pack_zombies, empty_zombie}
-use borrow.Author.Rules.{rules}
 use native.Mathlib.Omega.{arith}
-use Rattle.plain_tables.proofs.zombies.push_zombie.Statement.{statement}
-use Rattle.plain_tables.proofs.zombies.push_zombie.Tie as tie
+use Rattle.plain_tables.proofs.zombies.push_zombie.Goals as goal
 
-mul-z : tie.Need-overflow-mul-z
-mul-z c = search rules
-
-element-set-from-z : tie.Need-element-set-from-z
-element-set-from-z c = search rules
-
-add-out : tie.Need-overflow-add-out
-add-out c = search rules
-
-returns : tie.Need-returns
+pub returns : goal.returns
 unfolding zombies_of pack_zombies
 returns c =
     let a = c.args in
@@ -32,6 +21,3 @@ returns c =
       cells = pushed ZOMBIES empty_zombie k.0 k.1 a.z i;
       count = n i;
     }
-
-pub push-zombie-spec : {M : Type 1} → statement M
-push-zombie-spec = tie.close (tie.spec mul-z element-set-from-z add-out returns)

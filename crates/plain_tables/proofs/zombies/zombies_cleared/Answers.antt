@@ -1,0 +1,30 @@
+-- `plain_tables::zombies::zombies_cleared` meets its contract. The invariant: the first `i` cells are those of a table of `i` cells, and the count stays.
+-- `clearing-turn` is a turn.
+use mathlib.Core.Path.{◌≡◌}
+use lib.ListN.{length, length-take}
+use Rattle.lists.proofs.Tests.{length-mapped}
+use Rattle.lists.proofs.Pushed.{clearing-begins, clearing-ends}
+use Rattle.tables.specs.Bounds.{ZOMBIES}
+use Rattle.tables.specs.Values.{zombies_of, pack_zombies, empty_zombie}
+use borrow.Author.Rules.{rules}
+use native.Mathlib.Omega.{arith}
+use Rattle.plain_tables.proofs.zombies.zombies_cleared.Goals as goal
+
+pub loop-i-init : goal.loop-i-init
+unfolding zombies_of
+loop-i-init c =
+    let t = c.args.t in
+    let all : length t.cells ≡ ZOMBIES = search (rules, length-mapped) in
+    ((simp length-take (omega arith), (search rules, search rules)), (all, clearing-begins t.count empty_zombie t.cells (omega arith)))
+
+pub returns : goal.returns
+unfolding pack_zombies
+returns c =
+    let v = c.loop-i in
+    let e : v.i ≡ ZOMBIES = omega arith in
+    let l = zombies_of c.args.t in
+    let n : v.out.count ≡ length l = omega arith in
+    λ i. record {
+      cells = clearing-ends ZOMBIES empty_zombie l v.out.cells (omega arith) (rw e at v.invariant.1.1) i;
+      count = n i;
+    }
