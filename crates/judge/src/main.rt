@@ -1,48 +1,45 @@
 // Reads a trace and prints the judge's verdict on it, one line on standard output, and why on standard error; of several traces, each with its name.
 #![tactic(auto)]
 
-use libc::{STDERR_FILENO, STDIN_FILENO, STDOUT_FILENO};
-use named_files::Wish;
+use judge_stream::{WordsTo, pump};
+use named_files::{NAME_ROOM, Named, Wish, asked_for, is_word, open_named, say};
+use std::io::Write;
+use std::rt::{Env, Files};
 
-fn help() {
-    io::write_all(
-        STDOUT_FILENO,
-        b"usage: judge [FILE..]\n\nReads a trace and prints one line on standard output: accepted, rejected or large, the\nnumber of the line, and the number of the rule or of what is too large; and why, in words,\non standard error. Without a file it reads standard input; of several files each line has\nthe file's name before it.\ndocs/TRACES.md says what the rules are, and what to look at.\n",
-    );
-}
-
-fn one(i: usize, named: bool) {
-    let mut name = io::buffer();
-    let file = named_files::open_named(i, &mut name);
-    let fd = file.fd;
-    if fd < 0 {
+fn one<R: Env + Files>(rt: &R, to: &mut impl Write, err: &mut impl Write, i: usize, named: bool) {
+    let mut name = [0u8; NAME_ROOM];
+    let Named { file, length } = open_named(rt, err, i, &mut name);
+    let Some(mut file) = file else {
         return;
-    }
-    let n = file.length;
+    };
     if named {
-        judge_stream::pump(fd, &name[..n], STDERR_FILENO);
+        pump(&mut file, to, err, &name[..length], WordsTo::Errors);
     } else {
-        judge_stream::pump(fd, b"", STDERR_FILENO);
-    }
-    libc::close(fd);
-}
-
-fn each() {
-    let n = os::arg_count();
-    let named = n > 2;
-    let mut i: usize = 1;
-    while i < n {
-        one(i, named);
-        i += 1;
+        pump(&mut file, to, err, b"", WordsTo::Errors);
     }
 }
 
-fn main() {
-    let wish = named_files::asked_for(b"judge");
-    match wish {
-        Wish::Help => help(),
+fn each<R: Env + Files>(rt: &R, to: &mut impl Write, err: &mut impl Write) {
+    let named = is_word(rt, 2);
+    for i in 1..usize::MAX {
+        if !is_word(rt, i) {
+            break;
+        }
+        one(rt, to, err, i, named);
+    }
+}
+
+fn main(rt: HostRuntime) {
+    let mut out = rt.stdout();
+    let mut err = rt.stderr();
+    let mut input = rt.stdin();
+    match asked_for(&rt, &input, &mut err, b"judge") {
+        Wish::Help => say(
+            &mut out,
+            b"usage: judge [FILE..]\n\nReads a trace and prints one line on standard output: accepted, rejected or large, the\nnumber of the line, and the number of the rule or of what is too large; and why, in words,\non standard error. Without a file it reads standard input; of several files each line has\nthe file's name before it.\ndocs/TRACES.md says what the rules are, and what to look at.\n",
+        ),
         Wish::Refused => {}
-        Wish::Input => judge_stream::pump(STDIN_FILENO, b"", STDERR_FILENO),
-        Wish::Files => each(),
+        Wish::Input => pump(&mut input, &mut out, &mut err, b"", WordsTo::Errors),
+        Wish::Files => each(&rt, &mut out, &mut err),
     }
 }

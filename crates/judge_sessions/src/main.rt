@@ -3,27 +3,25 @@
 // size and one beyond; and inputs that end within a line or a call, or whose line comes in two reads.
 #![tactic(auto)]
 
-fn one(i: usize) {
-    let mut path = io::buffer();
-    let n = os::arg(i, &mut path);
-    if os::errno() != 0 {
-        os::fail(b"path");
+use judge_stream::{WordsTo, pump};
+use named_files::{NAME_ROOM, is_word, open_named};
+use std::io::Write;
+use std::rt::{Env, Files};
+
+fn one<R: Env + Files>(rt: &R, to: &mut impl Write, err: &mut impl Write, i: usize) {
+    let mut path = [0u8; NAME_ROOM];
+    let named = open_named(rt, err, i, &mut path);
+    let Some(mut file) = named.file else {
         return;
-    }
-    let fd = os::open_read(&path[..n]);
-    if fd < 0 {
-        os::fail(&path[..n]);
-        return;
-    }
-    judge_stream::pump(fd, b"", libc::STDOUT_FILENO);
-    libc::close(fd);
+    };
+    pump(&mut file, to, err, b"", WordsTo::Output);
 }
 
-fn main() {
-    let n = os::arg_count();
-    let mut i: usize = 1;
-    while i < n {
-        one(i);
-        i += 1;
+fn main(rt: HostRuntime) {
+    for i in 1..usize::MAX {
+        if !is_word(&rt, i) {
+            break;
+        }
+        one(&rt, &mut rt.stdout(), &mut rt.stderr(), i);
     }
 }

@@ -5,7 +5,7 @@ use Rattle.judge_chunks.specs.Promises.{Begun}
 use Rattle.judge_chunks.specs.declared.Progress.{Progress}
 use Rattle.judge_stream.specs.declared.Step.{Step}
 
--- the bytes of one read at the most: the large buffer of the kit's `io`
+-- the bytes of one read at the most
 abbrev pub most_read : ℕ
 most_read = 65536
 

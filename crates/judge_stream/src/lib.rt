@@ -19,7 +19,8 @@ use crate::words::put_words;
 use judge_chunks::{Progress, feed, finish};
 use judge_rules::Verdict;
 use judge_steps::State;
-use libc::{STDERR_FILENO, STDOUT_FILENO};
+use named_files::say;
+use std::io::{Read, Write};
 use trace::put_text;
 
 // How far the input is judged after a read of `count` bytes, 0 at its end, and how many bytes of the line under way are kept; or whether the read failed.
@@ -31,22 +32,35 @@ struct Step {
     failed: bool,
 }
 
+// Where the words of a verdict go.
+#[derive(Clone, Copy)]
+pub enum WordsTo {
+    Output,
+    Errors,
+}
+
+// The bytes of one read at the most.
+const CHUNK: usize = 65536;
+
+// The words of a verdict are shorter.
+const TEXT_ROOM: usize = 4096;
+
 // How many bytes a trace may have, 2^63.
 const MOST_BYTES: u64 = 0x8000_0000_0000_0000;
 
 // A byte more than the longest line has, with its line feed: what such a line begins with is enough to tell what is wrong with it.
 const LINE_ROOM: usize = 74;
 
-fn not_written() {
-    io::write_all(STDERR_FILENO, b"judge: the verdict cannot be written\n");
+fn not_written(err: &mut impl Write) {
+    say(err, b"judge: the verdict cannot be written\n");
 }
 
-fn not_read() {
-    io::write_all(STDERR_FILENO, b"judge: the trace cannot be read\n");
+fn not_read(err: &mut impl Write) {
+    say(err, b"judge: the trace cannot be read\n");
 }
 
-fn too_long() {
-    io::write_all(STDERR_FILENO, b"judge: the trace has 2^63 bytes or more\n");
+fn too_long(err: &mut impl Write) {
+    say(err, b"judge: the trace has 2^63 bytes or more\n");
 }
 
 // The line that says the verdict, from a place of the buffer on; the place after it.
@@ -62,27 +76,29 @@ fn put_verdict(out: &mut [u8], at: usize, v: Verdict) -> usize
 }
 
 // A trace's name and what stands between it and what is said of it, where it has one.
-fn say_name(to: i32, name: &[u8], behind: &[u8]) {
+fn say_name(to: &mut impl Write, name: &[u8], behind: &[u8]) {
     if name.len() == 0 {
         return;
     }
-    io::write_all(to, name);
-    io::write_all(to, behind);
+    say(to, name);
+    say(to, behind);
 }
 
-fn say_verdict(name: &[u8], v: Verdict) {
-    say_name(STDOUT_FILENO, name, b"\t");
-    let mut out = io::buffer();
+fn say_verdict(to: &mut impl Write, err: &mut impl Write, name: &[u8], v: Verdict) {
+    say_name(to, name, b"\t");
+    let mut out = [0u8; TEXT_ROOM];
     let n = put_verdict(&mut out, 0, v);
-    if !io::write_all(STDOUT_FILENO, &out[..n]) {
-        not_written();
+    if to.write_all(&out[..n]).is_err() {
+        not_written(err);
     }
 }
 
 // The end of the input. `line` is as much as is kept of the line under way.
 fn end(
+    to: &mut impl Write,
+    err: &mut impl Write,
+    words_to: WordsTo,
     name: &[u8],
-    words_to: i32,
     p: Progress,
     reservations: &mut [u64],
     held: &mut [u64],
@@ -94,19 +110,26 @@ fn end(
     requires whole_slices { WholeSlices (lent reservations.old held.old mapped.old live.old) }
 {
     let v = finish(p, reservations, held, mapped, live);
-    say_verdict(name, v);
-    let mut out = io::buffer();
+    say_verdict(to, err, name, v);
+    let mut out = [0u8; TEXT_ROOM];
     let n = put_words(&mut out, 0, v, p, reservations, held, mapped, live, line);
     if n == 0 {
         return;
     }
-    say_name(words_to, name, b": ");
-    io::write_all(words_to, &out[..n]);
+    match words_to {
+        WordsTo::Output => say_words(to, name, &out[..n]),
+        WordsTo::Errors => say_words(err, name, &out[..n]),
+    }
+}
+
+fn say_words(to: &mut impl Write, name: &[u8], words: &[u8]) {
+    say_name(to, name, b": ");
+    say(to, words);
 }
 
 // Reads once and judges what came.
 fn serve(
-    fd: i32,
+    input: &mut impl Read,
     p: Progress,
     reservations: &mut [u64],
     held: &mut [u64],
@@ -119,17 +142,15 @@ fn serve(
     requires kept_in_bounds { kept ≤ length head.old }
     ensures { Serves result p (left reservations held mapped live) head.new }
 {
-    let mut buf = io::large_buffer();
-    let got = libc::read(fd, &mut buf);
-    if got < 0 {
+    let mut buf = [0u8; CHUNK];
+    let Ok(n) = input.read(&mut buf) else {
         return Step {
             progress: p,
             count: 0,
             kept,
             failed: true,
         };
-    }
-    let n = io::count(got, &buf);
+    };
     let progress = feed(p, reservations, held, mapped, live, &buf[..n]);
     Step {
         progress,
@@ -139,9 +160,9 @@ fn serve(
     }
 }
 
-// From an open file: the verdict to standard output, and the words of why it is not accepted to a file that is open for writing, each with the name before
-// it, where that is not empty.
-pub fn pump(fd: i32, name: &[u8], words_to: i32) {
+// From an open file: the verdict to standard output, and the words of why it is not accepted to there or to standard error, each with the name before it,
+// where that is not empty.
+pub fn pump(input: &mut impl Read, to: &mut impl Write, err: &mut impl Write, name: &[u8], words_to: WordsTo) {
     let mut reservations: [u64; State::RESERVATION_NUMBERS] = [0; State::RESERVATION_NUMBERS];
     let mut held: [u64; State::HELD_NUMBERS] = [0; State::HELD_NUMBERS];
     let mut mapped: [u64; State::MAPPED_NUMBERS] = [0; State::MAPPED_NUMBERS];
@@ -152,7 +173,7 @@ pub fn pump(fd: i32, name: &[u8], words_to: i32) {
     let mut total: u64 = 0;
     while total < MOST_BYTES {
         let r = serve(
-            fd,
+            input,
             p,
             &mut reservations,
             &mut held,
@@ -162,7 +183,7 @@ pub fn pump(fd: i32, name: &[u8], words_to: i32) {
             kept,
         );
         if r.failed {
-            not_read();
+            not_read(err);
             return;
         }
         let progress = r.progress;
@@ -170,8 +191,10 @@ pub fn pump(fd: i32, name: &[u8], words_to: i32) {
         kept = r.kept;
         if n == 0 {
             end(
-                name,
+                to,
+                err,
                 words_to,
+                name,
                 progress,
                 &mut reservations,
                 &mut held,
@@ -184,5 +207,5 @@ pub fn pump(fd: i32, name: &[u8], words_to: i32) {
         p = progress;
         total += n as u64;
     }
-    too_long();
+    too_long(err);
 }

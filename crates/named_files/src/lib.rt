@@ -2,9 +2,18 @@
 // that nothing is said of another input than was meant.
 #![tactic(auto)]
 
-ghost use Rattle.io.specs.Counts.{IsPrefixLen};
+mod failures;
 
-use libc::{STDERR_FILENO, STDIN_FILENO};
+ghost use Rattle.std.specs.Prelude.{◌≤◌, length};
+
+use crate::failures::{say_failure, say_no_text, say_too_long};
+use std::env::FillError;
+use std::fs::File;
+use std::io::{IsTerminal, Write};
+use std::rt::{Env, Files};
+
+// The longest name of a file that the system takes.
+pub const NAME_ROOM: usize = 4096;
 
 #[derive(Clone, Copy)]
 pub enum Wish {
@@ -41,78 +50,124 @@ fn is_help(word: &[u8]) -> bool {
     word[5] == b'p'
 }
 
-fn refuse(program: &[u8], word: &[u8]) {
-    io::write_all(STDERR_FILENO, program);
-    io::write_all(STDERR_FILENO, b": it has no option ");
-    io::write_all(STDERR_FILENO, word);
-    io::write_all(STDERR_FILENO, b": --help says what it takes\n");
+fn refuse(to: &mut impl Write, program: &[u8], word: &[u8]) {
+    say(to, program);
+    say(to, b": it has no option ");
+    say(to, word);
+    say(to, b": --help says what it takes\n");
+}
+
+// What cannot be said on standard error can be said nowhere.
+pub fn say(to: &mut impl Write, text: &[u8]) {
+    let _ = to.write_all(text);
 }
 
 // Somebody at a terminal would else wait for a program that waits for him.
-fn say_what_it_waits_for(program: &[u8]) {
-    if libc::isatty(STDIN_FILENO) == 1 {
-        io::write_all(STDERR_FILENO, program);
-        io::write_all(
-            STDERR_FILENO,
+fn say_what_it_waits_for(input: &impl IsTerminal, to: &mut impl Write, program: &[u8]) {
+    if input.is_terminal() {
+        say(to, program);
+        say(
+            to,
             b": waits for a trace on standard input, which Ctrl-D ends\n",
         );
     }
 }
 
-// What word `i` asks for: `Files` where it may be a file's name.
-fn word_asks(program: &[u8], i: usize) -> Wish {
-    let mut word = io::buffer();
-    let n = os::arg(i, &mut word);
-    if os::errno() != 0 {
-        os::fail(program);
-        return Wish::Refused;
+// Whether there is a word `i`; the program's name is word 0.
+pub fn is_word(rt: &impl Env, i: usize) -> bool {
+    let mut word = [0u8; 1];
+    match rt.arg(i, &mut word) {
+        Err(FillError::NotPresent) => false,
+        _ => true,
     }
-    if !is_option(&word[..n]) {
-        return Wish::Files;
+}
+
+// What word `i` asks for: `Files` where it may be a file's name. `Input` where there is none.
+fn word_asks(rt: &impl Env, to: &mut impl Write, program: &[u8], i: usize) -> Wish {
+    let mut word = [0u8; NAME_ROOM];
+    match rt.arg(i, &mut word) {
+        Err(FillError::NotPresent) => Wish::Input,
+        Err(FillError::TooLong) => {
+            say_too_long(to, program);
+            Wish::Refused
+        }
+        Ok(n) => {
+            let word = &word[..n];
+            if !is_option(word) {
+                return Wish::Files;
+            }
+            if is_help(word) {
+                return Wish::Help;
+            }
+            refuse(to, program, word);
+            Wish::Refused
+        }
     }
-    if is_help(&word[..n]) {
-        return Wish::Help;
-    }
-    refuse(program, &word[..n]);
-    Wish::Refused
 }
 
 // The first word that is no file's name decides.
-pub fn asked_for(program: &[u8]) -> Wish {
-    let n = os::arg_count();
-    if n < 2 {
-        say_what_it_waits_for(program);
+pub fn asked_for(
+    rt: &impl Env,
+    input: &impl IsTerminal,
+    to: &mut impl Write,
+    program: &[u8],
+) -> Wish {
+    if !is_word(rt, 1) {
+        say_what_it_waits_for(input, to, program);
         return Wish::Input;
     }
-    let mut i: usize = 1;
-    while i < n {
-        let asks = word_asks(program, i);
-        let Wish::Files = asks else {
-            return asks;
-        };
-        i += 1;
+    for i in 1..usize::MAX {
+        match word_asks(rt, to, program, i) {
+            Wish::Files => {}
+            Wish::Input => break,
+            asks => return asks,
+        }
     }
     Wish::Files
 }
 
-// The descriptor of the file that word `i` names, or less than 0, which is told. Its name is put at the start of `name`.
-pub fn open_named(i: usize, name: &mut [u8]) -> Named
-    ensures { IsPrefixLen result.length name.new }
+// The file that word `i` names, where it can be opened; else that is told. Its name is put at the start of `name`.
+pub fn open_named<R: Env + Files>(
+    rt: &R,
+    to: &mut impl Write,
+    i: usize,
+    name: &mut [u8],
+) -> Named<R::File>
+    ensures { result.length ≤ length name.new }
 {
-    let n = os::arg(i, name);
-    if os::errno() != 0 {
-        os::fail(b"a file's name");
-        return Named { fd: -1, length: 0 };
+    match rt.arg(i, name) {
+        Ok(n) => Named {
+            file: opened(rt, to, &name[..n]),
+            length: n,
+        },
+        Err(_) => {
+            say_too_long(to, b"a file's name");
+            Named {
+                file: None,
+                length: 0,
+            }
+        }
     }
-    let fd = os::open_read(&name[..n]);
-    if fd < 0 {
-        os::fail(&name[..n]);
-    }
-    Named { fd, length: n }
 }
 
-#[derive(Clone, Copy)]
-pub struct Named {
-    pub fd: i32,
+fn opened<R: Files>(rt: &R, to: &mut impl Write, name: &[u8]) -> Option<R::File> {
+    match str::from_utf8(name) {
+        Ok(path) => match File::open(rt, path) {
+            Ok(file) => Some(file),
+            Err(e) => {
+                say_failure(to, name, e);
+                None
+            }
+        },
+        Err(_) => {
+            say_no_text(to, name);
+            None
+        }
+    }
+}
+
+#[derive(Drop)]
+pub struct Named<F: Drop> {
+    pub file: Option<F>,
     pub length: usize,
 }

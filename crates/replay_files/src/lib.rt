@@ -1,30 +1,29 @@
 // What replay prints for each trace that a word behind the program's name names.
 #![tactic(auto)]
 
-use libc::STDOUT_FILENO;
+use named_files::{NAME_ROOM, Named, is_word, open_named, say};
+use std::io::Write;
+use std::rt::{Env, Files};
 
-fn one(i: usize, tables: bool, named: bool) {
-    let mut name = io::buffer();
-    let file = named_files::open_named(i, &mut name);
-    let fd = file.fd;
-    if fd < 0 {
+fn one<R: Env + Files>(rt: &R, to: &mut impl Write, err: &mut impl Write, i: usize, tables: bool, named: bool) {
+    let mut name = [0u8; NAME_ROOM];
+    let Named { file, length } = open_named(rt, err, i, &mut name);
+    let Some(mut file) = file else {
         return;
-    }
+    };
     if named {
-        let n = file.length;
-        io::write_all(STDOUT_FILENO, &name[..n]);
-        io::write_all(STDOUT_FILENO, b"\n");
+        say(to, &name[..length]);
+        say(to, b"\n");
     }
-    replay_stream::pump(fd, tables);
-    libc::close(fd);
+    replay_stream::pump(rt, &mut file, to, err, tables);
 }
 
 // One after the other; each with its name before it, if that is asked for.
-pub fn pump_each(tables: bool, named: bool) {
-    let n = os::arg_count();
-    let mut i: usize = 1;
-    while i < n {
-        one(i, tables, named);
-        i += 1;
+pub fn pump_each<R: Env + Files>(rt: &R, to: &mut impl Write, err: &mut impl Write, tables: bool, named: bool) {
+    for i in 1..usize::MAX {
+        if !is_word(rt, i) {
+            break;
+        }
+        one(rt, to, err, i, tables, named);
     }
 }

@@ -2,6 +2,6 @@
 // inputs of one idea each, under its name; where the idea is a number handed back, n and that number come first.
 #![tactic(auto)]
 
-fn main() {
-    replay_files::pump_each(false, true);
+fn main(rt: HostRuntime) {
+    replay_files::pump_each(&rt, &mut rt.stdout(), &mut rt.stderr(), false, true);
 }

@@ -9,10 +9,12 @@ ghost use Rattle.replay_chunks.specs.Promises.{Buffers};
 ghost use Rattle.replay_stream.specs.Promises.{Reads};
 
 use calls::Pool;
-use libc::{STDERR_FILENO, STDOUT_FILENO};
+use named_files::{NAME_ROOM, say};
 use replay_chunks::{last, turn};
 use replay_table_text::put_tables;
 use replay_waiting::Place;
+use std::io::{Read, Write};
+use std::rt::Env;
 
 // Where the run stands after a chunk, and whether it goes on; `count` bytes were read.
 #[derive(Clone, Copy)]
@@ -23,34 +25,38 @@ struct State {
     live: bool,
 }
 
+// The bytes of one read at the most.
+const CHUNK: usize = 65536;
+
 // To standard error, by the name that the program was called by.
-fn complain(what: &[u8]) {
-    let mut name = io::buffer();
-    let n = os::arg(0, &mut name);
-    io::write_all(STDERR_FILENO, &name[..n]);
-    io::write_all(STDERR_FILENO, what);
+fn complain(rt: &impl Env, err: &mut impl Write, what: &[u8]) {
+    let mut name = [0u8; NAME_ROOM];
+    if let Ok(n) = rt.arg(0, &mut name) {
+        say(err, &name[..n]);
+    }
+    say(err, what);
 }
 
 // To standard output; whether it could be written.
-fn written(bytes: &[u8]) -> bool {
-    if io::write_all(STDOUT_FILENO, bytes) {
+fn written(rt: &impl Env, to: &mut impl Write, err: &mut impl Write, bytes: &[u8]) -> bool {
+    if to.write_all(bytes).is_ok() {
         return true;
     }
-    complain(b": standard output cannot be written\n");
+    complain(rt, err, b": standard output cannot be written\n");
     false
 }
 
 // The pool's tables; whether they could be written.
-fn show(pool: Pool, out: &mut [u8]) -> bool
+fn show(rt: &impl Env, to: &mut impl Write, err: &mut impl Write, pool: Pool, out: &mut [u8]) -> bool
     requires { longest_tables ≤ length out.old }
 {
     let value = pool.value;
     let end = put_tables(value, out, 0);
-    written(&out[..end])
+    written(rt, to, err, &out[..end])
 }
 
-fn not_read() {
-    complain(b": the trace cannot be read\n");
+fn not_read(rt: &impl Env, err: &mut impl Write) {
+    complain(rt, err, b": the trace cannot be read\n");
 }
 
 // The end of a run.
@@ -67,6 +73,9 @@ fn over(pool: Pool, place: Place, count: usize) -> State
 
 // Prints what a chunk of the input comes to.
 fn drain(
+    rt: &impl Env,
+    to: &mut impl Write,
+    err: &mut impl Write,
     tables: bool,
     chunk: &[u8],
     pool: Pool,
@@ -90,7 +99,7 @@ fn drain(
         p = left;
         t = place;
         at = r.at;
-        if !written(&out[..filled]) {
+        if !written(rt, to, err, &out[..filled]) {
             return over(p, t, chunk.len());
         }
         if !tables {
@@ -99,7 +108,7 @@ fn drain(
         if !r.shown {
             continue;
         }
-        if !show(p, out) {
+        if !show(rt, to, err, p, out) {
             return over(p, t, chunk.len());
         }
     }
@@ -112,30 +121,50 @@ fn drain(
 }
 
 // The end of the input. A last line that lacks its line feed counts: one is read behind it.
-fn finish(tables: bool, pool: Pool, s: Place, answers: &mut [u64], log: &mut [u64], out: &mut [u8])
+fn finish(
+    rt: &impl Env,
+    to: &mut impl Write,
+    err: &mut impl Write,
+    tables: bool,
+    pool: Pool,
+    s: Place,
+    answers: &mut [u64],
+    log: &mut [u64],
+    out: &mut [u8],
+)
     requires stands { Stands s × (s.line + 1 < 2 ^ 64) }
     requires buffers { Buffers answers.old log.old out.old }
 {
     if s.is_ended() {
-        return end(tables, pool, s, answers, log, out);
+        return end(rt, to, err, tables, pool, s, answers, log, out);
     }
-    let fed = drain(tables, b"\n", pool, s, answers, log, out);
+    let fed = drain(rt, to, err, tables, b"\n", pool, s, answers, log, out);
     let left = fed.pool;
     let place = fed.place;
     if !fed.live {
         return;
     }
-    end(tables, left, place, answers, log, out);
+    end(rt, to, err, tables, left, place, answers, log, out);
 }
 
 // The call that waits is run.
-fn end(tables: bool, pool: Pool, s: Place, answers: &[u64], log: &mut [u64], out: &mut [u8])
+fn end(
+    rt: &impl Env,
+    to: &mut impl Write,
+    err: &mut impl Write,
+    tables: bool,
+    pool: Pool,
+    s: Place,
+    answers: &[u64],
+    log: &mut [u64],
+    out: &mut [u8],
+)
     requires { Stands s × Buffers answers.now log.old out.old }
 {
     let r = last(pool, s, answers, log, out);
     let left = r.pool;
     let filled = r.filled;
-    if !written(&out[..filled]) {
+    if !written(rt, to, err, &out[..filled]) {
         return;
     }
     if !tables {
@@ -144,12 +173,15 @@ fn end(tables: bool, pool: Pool, s: Place, answers: &[u64], log: &mut [u64], out
     if !r.shown {
         return;
     }
-    show(left, out);
+    show(rt, to, err, left, out);
 }
 
 // Reads once and prints what came; at the end of the input, what is left.
 fn serve(
-    fd: i32,
+    rt: &impl Env,
+    input: &mut impl Read,
+    to: &mut impl Write,
+    err: &mut impl Write,
     tables: bool,
     pool: Pool,
     s: Place,
@@ -162,22 +194,20 @@ fn serve(
     ensures reads { Reads s result.count result.place × (result.count ≤ 65536) }
     ensures count_nonzero { result.live ≡ true → 0 < result.count }
 {
-    let mut buf = io::large_buffer();
-    let got = libc::read(fd, &mut buf);
-    if got < 0 {
-        not_read();
+    let mut buf = [0u8; CHUNK];
+    let Ok(n) = input.read(&mut buf) else {
+        not_read(rt, err);
         return over(pool, s, 0);
-    }
-    let n = io::count(got, &buf);
+    };
     if n == 0 {
-        finish(tables, pool, s, answers, log, out);
+        finish(rt, to, err, tables, pool, s, answers, log, out);
         return over(pool, s, 0);
     }
-    drain(tables, &buf[..n], pool, s, answers, log, out)
+    drain(rt, to, err, tables, &buf[..n], pool, s, answers, log, out)
 }
 
-// From an open file to standard output; after each result the pool's tables too, if they are asked for.
-pub fn pump(fd: i32, tables: bool) {
+// From an open file to standard output; after each result the pool's tables too, if they are asked for. `err` is standard error.
+pub fn pump(rt: &impl Env, input: &mut impl Read, to: &mut impl Write, err: &mut impl Write, tables: bool) {
     let mut answers = replay_chunks::answers_buffer();
     let mut log = replay_chunks::log_buffer();
     let mut out = replay_chunks::text_buffer();
@@ -185,7 +215,18 @@ pub fn pump(fd: i32, tables: bool) {
     let mut s = Place::first();
     let mut total: u64 = 0;
     while total < 0x8000_0000_0000_0000 {
-        let r = serve(fd, tables, pool, s, &mut answers, &mut log, &mut out);
+        let r = serve(
+            rt,
+            input,
+            to,
+            err,
+            tables,
+            pool,
+            s,
+            &mut answers,
+            &mut log,
+            &mut out,
+        );
         if !r.live {
             return;
         }

@@ -1,22 +1,19 @@
 // As replay, and after each result line the pool's tables (docs/RULES.md 7.6).
 #![tactic(auto)]
 
-use libc::{STDIN_FILENO, STDOUT_FILENO};
-use named_files::Wish;
+use named_files::{Wish, asked_for, say};
 
-fn help() {
-    io::write_all(
-        STDOUT_FILENO,
-        b"usage: replay_tables [FILE..]\n\nAs replay, and after each result line the pool's tables. Without a file it reads standard\ninput; several are read one after the other, each by itself. docs/TRACES.md says what the\nlines mean.\n",
-    );
-}
-
-fn main() {
-    let wish = named_files::asked_for(b"replay_tables");
-    match wish {
-        Wish::Help => help(),
+fn main(rt: HostRuntime) {
+    let mut out = rt.stdout();
+    let mut err = rt.stderr();
+    let mut input = rt.stdin();
+    match asked_for(&rt, &input, &mut err, b"replay_tables") {
+        Wish::Help => say(
+            &mut out,
+            b"usage: replay_tables [FILE..]\n\nAs replay, and after each result line the pool's tables. Without a file it reads standard\ninput; several are read one after the other, each by itself. docs/TRACES.md says what the\nlines mean.\n",
+        ),
         Wish::Refused => {}
-        Wish::Input => replay_stream::pump(STDIN_FILENO, true),
-        Wish::Files => replay_files::pump_each(true, false),
+        Wish::Input => replay_stream::pump(&rt, &mut input, &mut out, &mut err, true),
+        Wish::Files => replay_files::pump_each(&rt, &mut out, &mut err, true, false),
     }
 }

@@ -2,6 +2,6 @@
 // that are answered 6: its expected output is what compare/'s `rust_replay --tables` prints for it.
 #![tactic(auto)]
 
-fn main() {
-    replay_files::pump_each(true, true);
+fn main(rt: HostRuntime) {
+    replay_files::pump_each(&rt, &mut rt.stdout(), &mut rt.stderr(), true, true);
 }

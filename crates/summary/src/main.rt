@@ -1,50 +1,47 @@
 // Prints a summary of each trace that is named, or of standard input: what support looks at first.
 #![tactic(auto)]
 
-use libc::{STDIN_FILENO, STDOUT_FILENO};
-use named_files::Wish;
+use named_files::{NAME_ROOM, Named, Wish, asked_for, is_word, open_named, say};
+use std::io::Write;
+use std::rt::{Env, Files};
+use summary_stream::pump;
 
-fn help() {
-    io::write_all(
-        STDOUT_FILENO,
-        b"usage: summary [FILE..]\n\nOne screen on a trace: its answers, the driver lines that failed, the peaks of live and of\nmapped bytes, and what is left at the end. The judge takes each line first: where it takes\none no more, the summary is of the lines before, and the last line says so. Without a file\nit reads standard input; several are read one after the other.\n",
-    );
-}
-
-fn one(i: usize) {
-    let mut name = io::buffer();
-    let file = named_files::open_named(i, &mut name);
-    let fd = file.fd;
-    if fd < 0 {
+fn one<R: Env + Files>(rt: &R, to: &mut impl Write, err: &mut impl Write, i: usize) {
+    let mut name = [0u8; NAME_ROOM];
+    let Named { file, length } = open_named(rt, err, i, &mut name);
+    let Some(mut file) = file else {
         return;
-    }
-    let n = file.length;
-    io::write_all(STDOUT_FILENO, b"trace     ");
-    io::write_all(STDOUT_FILENO, &name[..n]);
-    io::write_all(STDOUT_FILENO, b"\n");
-    summary_stream::pump(fd);
-    libc::close(fd);
+    };
+    say(to, b"trace     ");
+    say(to, &name[..length]);
+    say(to, b"\n");
+    pump(&mut file, to, err);
 }
 
 // One after the other, with an empty line between.
-fn each() {
-    let n = os::arg_count();
-    let mut i: usize = 1;
-    while i < n {
-        if 1 < i {
-            io::write_all(STDOUT_FILENO, b"\n");
+fn each<R: Env + Files>(rt: &R, to: &mut impl Write, err: &mut impl Write) {
+    for i in 1..usize::MAX {
+        if !is_word(rt, i) {
+            break;
         }
-        one(i);
-        i += 1;
+        if 1 < i {
+            say(to, b"\n");
+        }
+        one(rt, to, err, i);
     }
 }
 
-fn main() {
-    let wish = named_files::asked_for(b"summary");
-    match wish {
-        Wish::Help => help(),
+fn main(rt: HostRuntime) {
+    let mut out = rt.stdout();
+    let mut err = rt.stderr();
+    let mut input = rt.stdin();
+    match asked_for(&rt, &input, &mut err, b"summary") {
+        Wish::Help => say(
+            &mut out,
+            b"usage: summary [FILE..]\n\nOne screen on a trace: its answers, the driver lines that failed, the peaks of live and of\nmapped bytes, and what is left at the end. The judge takes each line first: where it takes\none no more, the summary is of the lines before, and the last line says so. Without a file\nit reads standard input; several are read one after the other.\n",
+        ),
         Wish::Refused => {}
-        Wish::Input => summary_stream::pump(STDIN_FILENO),
-        Wish::Files => each(),
+        Wish::Input => pump(&mut input, &mut out, &mut err),
+        Wish::Files => each(&rt, &mut out, &mut err),
     }
 }

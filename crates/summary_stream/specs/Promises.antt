@@ -10,7 +10,7 @@ use Rattle.summary_stream.specs.declared.Fed.{Fed}
 use Rattle.summary_stream.specs.declared.Progress.{Progress}
 use Rattle.summary_stream.specs.declared.Step.{Step}
 
--- the bytes of one read at the most: the large buffer of the kit's `io`
+-- the bytes of one read at the most
 abbrev pub most_read : ℕ
 most_read = 65536
 

@@ -14,8 +14,9 @@ mod text;
 
 use judge_rules::Verdict;
 use judge_steps::{Outcome, State};
-use libc::STDERR_FILENO;
+use named_files::say;
 use report::report;
+use std::io::{Read, Write};
 use summary_counts::{Counts, Sums, take};
 use trace::{Partial, Reading};
 
@@ -42,18 +43,18 @@ struct Step {
     failed: bool,
 }
 
+// The bytes of one read at the most.
+const CHUNK: usize = 65536;
+
 // How many bytes a trace may have, 2^63.
 const MOST_BYTES: u64 = 0x8000_0000_0000_0000;
 
-fn not_read() {
-    io::write_all(STDERR_FILENO, b"summary: the trace cannot be read\n");
+fn not_read(err: &mut impl Write) {
+    say(err, b"summary: the trace cannot be read\n");
 }
 
-fn too_long() {
-    io::write_all(
-        STDERR_FILENO,
-        b"summary: the trace has 2^63 bytes or more\n",
-    );
+fn too_long(err: &mut impl Write) {
+    say(err, b"summary: the trace has 2^63 bytes or more\n");
 }
 
 // What a line that was read says.
@@ -241,7 +242,7 @@ fn last_line(
 
 // Reads once and counts what came.
 fn serve(
-    fd: i32,
+    input: &mut impl Read,
     p: Progress,
     reservations: &mut [u64],
     held: &mut [u64],
@@ -256,16 +257,14 @@ fn serve(
         (own answers.old firsts.old failures.old handed.old) }
     ensures { Serves result p (left reservations held mapped live) (own_left answers firsts failures handed) }
 {
-    let mut buf = io::large_buffer();
-    let got = libc::read(fd, &mut buf);
-    if got < 0 {
+    let mut buf = [0u8; CHUNK];
+    let Ok(n) = input.read(&mut buf) else {
         return Step {
             progress: p,
             count: 0,
             failed: true,
         };
-    }
-    let n = io::count(got, &buf);
+    };
     let progress = feed(
         p,
         reservations,
@@ -285,8 +284,8 @@ fn serve(
     }
 }
 
-// From an open file to standard output.
-pub fn pump(fd: i32) {
+// From an open file to standard output. `err` is standard error.
+pub fn pump(input: &mut impl Read, to: &mut impl Write, err: &mut impl Write) {
     let mut reservations: [u64; State::RESERVATION_NUMBERS] = [0; State::RESERVATION_NUMBERS];
     let mut held: [u64; State::HELD_NUMBERS] = [0; State::HELD_NUMBERS];
     let mut mapped: [u64; State::MAPPED_NUMBERS] = [0; State::MAPPED_NUMBERS];
@@ -303,7 +302,7 @@ pub fn pump(fd: i32) {
     let mut total: u64 = 0;
     while total < MOST_BYTES {
         let r = serve(
-            fd,
+            input,
             p,
             &mut reservations,
             &mut held,
@@ -315,7 +314,7 @@ pub fn pump(fd: i32) {
             &mut handed,
         );
         if r.failed {
-            not_read();
+            not_read(err);
             return;
         }
         let progress = r.progress;
@@ -332,11 +331,21 @@ pub fn pump(fd: i32) {
                 &mut failures,
                 &mut handed,
             );
-            report(last, &mapped, &live, &answers, &firsts, &failures, &handed);
+            report(
+                to,
+                err,
+                last,
+                &mapped,
+                &live,
+                &answers,
+                &firsts,
+                &failures,
+                &handed,
+            );
             return;
         }
         p = progress;
         total += n as u64;
     }
-    too_long();
+    too_long(err);
 }

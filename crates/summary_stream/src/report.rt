@@ -9,7 +9,8 @@ use crate::text::{put, put_number};
 use judge_rules::{Run, Verdict};
 use judge_steps::Outcome;
 use judge_tables::Row;
-use libc::{STDERR_FILENO, STDOUT_FILENO};
+use named_files::say;
+use std::io::Write;
 use summary_counts::{Counts, Peak, Sums, zombie_pages};
 
 fn put_call(out: &mut [u8], at: usize, call: usize) -> usize {
@@ -263,17 +264,21 @@ fn put_verdict(out: &mut [u8], at: usize, outcome: Outcome, run: Run, lines: u64
 }
 
 // The first bytes of a text, on standard output.
-fn write_first(text: &[u8], count: usize) {
+fn write_first(to: &mut impl Write, err: &mut impl Write, text: &[u8], count: usize) {
     if text.len() < count {
         return;
     }
-    if !io::write_all(STDOUT_FILENO, &text[..count]) {
-        io::write_all(STDERR_FILENO, b"summary: the summary cannot be written\n");
+    if to.write_all(&text[..count]).is_err() {
+        say(err, b"summary: the summary cannot be written\n");
     }
 }
 
-// A screen is far below the buffer's size: a line for each of at most 84 answers and 128 buffers.
+// A screen is far below it: a line for each of at most 84 answers and 128 buffers.
+const SCREEN_ROOM: usize = 65536;
+
 pub fn report(
+    to: &mut impl Write,
+    err: &mut impl Write,
     p: Progress,
     mapped: &[u64],
     live: &[u64],
@@ -286,7 +291,7 @@ pub fn report(
 {
     let s = p.sums;
     let counts = s.counts;
-    let mut out = io::large_buffer();
+    let mut out = [0u8; SCREEN_ROOM];
     let mut n = put_answers(&mut out, 0, answers, firsts);
     n = put_failures(&mut out, n, failures);
     n = put_peaks(&mut out, n, counts);
@@ -295,5 +300,5 @@ pub fn report(
     let state = s.state;
     let outcome = p.outcome;
     n = put_verdict(&mut out, n, outcome, state.run, counts.lines);
-    write_first(&out, n);
+    write_first(to, err, &out, n);
 }
