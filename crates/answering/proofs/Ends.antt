@@ -4,24 +4,12 @@ use mathlib.Core.List.{List}
 use Prim.Native.Nat.{ℕ}
 use Rattle.words.specs.declared.Answer.{Answer}
 use Rattle.tables.specs.Values.{Tables}
-use Rattle.tables.specs.Steps.{Step, Act, ◌>>=◌, give, end, each, tables, change}
+use Rattle.tables.specs.Steps.{Step, Act, ◌>>=◌, give, each, tables, change}
 use Rattle.tables.specs.Driver.{must, try}
 use Rattle.tables.specs.declared.Outcome.{Outcome}
 use Rattle.tables.specs.declared.Outcome.TheVariants.{DriverFailed, AnswersRanOut}
 use Rattle.keeping.specs.Holds.{Holds}
-use Rattle.keeping.proofs.Holds.{
-  Drives,
-  holds-from,
-  holds_to,
-  holds_then,
-  holds-give,
-  holds_looked,
-  holds-change,
-  holds-cond,
-  holds-each,
-  holds-must,
-  holds-try,
-}
+use Rattle.keeping.proofs.Holds.{Drives, holds-from, holds_then, holds-give, holds_looked, holds-change, holds-cond, holds-each, holds-must, holds-try}
 
 abbrev pub Ends : {A : Type 0} → (Outcome → Type 0) → Step A → Type 0
 Ends F m = Holds (λ _. Unit {0}) m (λ _ _. Unit {0}) (λ o _. F o)

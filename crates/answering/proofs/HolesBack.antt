@@ -76,6 +76,7 @@ insert-some a n l p =
 module _ (n m : ℕ) (some : 0 < n) where
   range_back : (b : ℕ) (h : Hole) (l : List Hole) → Apart b m l → Member h l → n ≤ h.size → insert_range (from h) n (cut_hole n (from h) l) ≡ l
   unfolding cut_hole
+  range_back b h [] w x3 q = elim x3 [ ]
   range_back b h (k ∷ l) w (inl e) q = rw (← e, eq-eqb (from h) (from h) refl) (go (rw (← e) at w))
     where
       go : Apart b m (h ∷ l) → insert_range (from h) n (cond (eqb h.size n) l (hole (from h + n) (h.size - n) ∷ l)) ≡ h ∷ l

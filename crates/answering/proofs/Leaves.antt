@@ -15,7 +15,7 @@ use Rattle.lists.proofs.Tests.{both, neither, either, cases_lt}
 use Rattle.words.specs.Answers.{value_of, failed}
 use Rattle.tables.specs.Bounds.{END, HOLES, PAGES, ROOTS, SPANS, ZOMBIES}
 use Rattle.tables.specs.Values.{Tables, address, opened, pool_of, at_entry, with_holes}
-use Rattle.tables.specs.Steps.{Ending, on, ends, Went, Step, after, ◌>>=◌, ◌>>◌, end_if}
+use Rattle.tables.specs.Steps.{Ending, on, ends, Went, Step, after, ◌>>=◌, end_if}
 use Rattle.tables.specs.Outcomes.{numbers, is}
 use Rattle.tables.specs.HandsBack.{refused, outcome_of, pool_after, finished}
 use Rattle.tables.specs.InsertHole.{from, insert_hole}
