@@ -1,6 +1,6 @@
 -- How what the code hands back is read.
 use Rattle.std.specs.Prelude.{Bool, ℕ}
-use Rattle.tables.specs.Values.{region, empty_region}
+use Rattle.tables.specs.Values.{empty_region}
 use Rattle.tables.specs.Steps.{Ending, on, ends}
 use Rattle.tables.specs.declared.Pool.{Pool}
 use Rattle.tables.specs.declared.Outcome.TheVariants.{AnswersRanOut}
