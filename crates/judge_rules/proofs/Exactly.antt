@@ -1,19 +1,19 @@
 -- A verdict says exactly what is wrong with a trace, and a trace has one verdict.
 use mathlib.Core.Path.{◌≡◌, refl, ap, sym, ◌∙◌, subst}
-use mathlib.Core.Bool.{Bool, true, false, cond, ◌||◌, not, false≢true}
+use mathlib.Core.Bool.{Bool, true, false, cond}
 use mathlib.Core.Logic.{◌⊎◌, inl, inr, ⊎_elim}
 use mathlib.Core.List.{List, [], ◌∷◌}
 use mathlib.Core.Option.{Option, none, some}
 use Prim.Native.Nat.{ℕ, zero, suc, ◌+◌, ◌<◌}
 use native.Mathlib.Omega.{arith}
-use lib.ListN.{length, take, drop}
+use lib.ListN.{take, drop}
 use Rattle.lists.proofs.Tests.{cases_eq, cases_lt}
 use Rattle.trace.specs.declared.Line.{Line}
 use Rattle.trace.specs.declared.Reading.{Reading}
 use Rattle.trace.specs.declared.Reading.TheVariants.{Good, Malformed}
-use Rattle.judge_rules.specs.Verdict.{Step, step, at_end, onward, verdict_from, verdict}
+use Rattle.judge_rules.specs.Verdict.{at_end, onward, verdict_from, verdict}
 use Rattle.judge_rules.specs.Meaning.{newest_first}
-use Rattle.judge_rules.specs.Exactly.{known, missing, Fault, breaks, passes, fault_of, fault_in, fault, Faultless, First, Says}
+use Rattle.judge_rules.specs.Exactly.{known, missing, Fault, breaks, passes, fault_of, fault_in, fault, First, Says}
 use Rattle.judge_rules.specs.declared.Verdict.{Verdict}
 use Rattle.judge_rules.specs.declared.Verdict.TheVariants.{Accepted, Rejected, Large}
 use Rattle.judge_rules.proofs.PageLaws.{some_is, some-not}

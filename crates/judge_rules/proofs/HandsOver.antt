@@ -1,6 +1,6 @@
 -- What R7 keeps: a buffer that is handed over has pages of its own, with handles of their own.
 use mathlib.Core.Path.{◌≡◌, refl, ap, sym, ◌∙◌}
-use mathlib.Core.Bool.{Bool, true, false, ◌&&◌, ◌||◌, not, false≢true}
+use mathlib.Core.Bool.{true, ◌&&◌, ◌||◌, not, false≢true}
 use mathlib.Core.Logic.{⊎_elim}
 use mathlib.Core.List.{List, [], ◌∷◌, map}
 use mathlib.Core.Option.{Option, none, some}
@@ -11,7 +11,7 @@ use lib.Dec.{eqb}
 use Rattle.lists.specs.Tests.{All, Member, every, any}
 use Rattle.lists.proofs.Tests.{both, either}
 use Rattle.judge_rules.specs.Ranges.{inside, clear, pages}
-use Rattle.judge_rules.specs.Rules.{Reservation, Judge, is_mapped, aligned, whole_pages, none_live, in_buffers, alone, no_handle_twice, R7}
+use Rattle.judge_rules.specs.Rules.{Reservation, is_mapped, aligned, whole_pages, none_live, in_buffers, alone, no_handle_twice, R7}
 use Rattle.judge_rules.specs.SoFar.{Held, Mapped}
 use Rattle.judge_rules.specs.Meaning.{Shown, shown_by, Buffer, there, handles, NoAddress, NoHandle}
 use Rattle.judge_rules.specs.Exactly.{plain_page, plain}

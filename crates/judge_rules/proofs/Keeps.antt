@@ -1,13 +1,13 @@
 -- What each rule keeps of the live buffers: R1, that reservations are apart; R2 and R5, which creation a handle is from; R3 and R4, what a page shows; R7, that
 -- buffers are apart, in addresses and in handles; R10, the reservation under a page.
-use mathlib.Core.Path.{◌≡◌, refl, ap, sym, ◌∙◌, subst}
-use mathlib.Core.Bool.{Bool, true, false, cond, ◌&&◌, ◌||◌, not, false≢true}
-use mathlib.Core.Logic.{◌⊎◌, inl, inr, ⊎_elim}
+use mathlib.Core.Path.{◌≡◌, refl, ap, sym, ◌∙◌}
+use mathlib.Core.Bool.{Bool, true, false, cond, ◌&&◌, not, false≢true}
+use mathlib.Core.Logic.{inl, inr, ⊎_elim}
 use mathlib.Core.List.{List, [], ◌∷◌, map}
 use mathlib.Core.Option.{Option, none, some}
-use Prim.Native.Nat.{ℕ, ◌+◌, ◌%◌, ◌≤◌, ◌<◌}
+use Prim.Native.Nat.{ℕ, ◌+◌, ◌%◌, ◌<◌}
 use native.Mathlib.Omega.{arith}
-use borrow.Author.Tests.{eqb-true, eqb-false, leb-true, not-true, eq-eqb, ne_eqb}
+use borrow.Author.Tests.{eqb-true, eqb-false, leb-true, not-true, ne_eqb}
 use lib.Dec.{leb, eqb}
 use Rattle.lists.specs.Tests.{All, Pairs, Member, every, any, filter, distinct}
 use Rattle.lists.proofs.Tests.{cases_eq, both, either, all_implies, all_both, all_filter}
@@ -16,7 +16,7 @@ use Rattle.lists.proofs.Members.{member-all, all-members, filter-member}
 use Rattle.judge_rules.specs.Ranges.{inside, clear, pages}
 use Rattle.judge_rules.specs.Rules.{Reservation, Judge, is_in, is_mapped, is_under, aligned, whole_pages, none_live, credible, in_reservation, R1, R2, R3, R4, R5, R10}
 use Rattle.judge_rules.specs.SoFar.{Held, Mapped}
-use Rattle.judge_rules.specs.Meaning.{Shown, created_by, shown_by, from, Buffer, there, handles, Holds, Reserves, NoAddress, NoReserved, NoHandle, Within, Kept, Sound}
+use Rattle.judge_rules.specs.Meaning.{Shown, created_by, shown_by, from, Buffer, handles, Holds, NoAddress, NoReserved, NoHandle, Within, Sound}
 use Rattle.judge_rules.specs.Exactly.{plain_page, plain}
 use Rattle.judge_rules.specs.declared.Run.{Run}
 use Rattle.judge_rules.proofs.PageLaws.{inside_is, is-inside, clear_apart, pages-in, is_some, some-none, some-not, carry, pairs-filter}
@@ -270,6 +270,7 @@ module _ (run : Run) (rs : List Reservation) (cs : List Held) (ms : List Mapped)
         let w = member-all (λ r. 0 < r.size) r q m z.1 in
         absurd (k r.base (omega (arith, ap (λ r. r.base) f), omega (arith, ap (λ r. r.base) f, z.0)) (omega arith, omega arith))
     one-base (x ∷ q) r s p z (inr m) (inr k) b = one-base q r s p.1 z.1 m k b
+    one-base [] r s p z x5 _ b = elim x5 [ ]
 
     pub keeps-giveback : 0 < run.page → R10 seen a n ≡ true → Upheld run.page standing cs ms bs
     unfolding R10

@@ -1,7 +1,7 @@
 -- The walk's state is what is known from the lines so far, and a line comes to what is wrong with it.
-use mathlib.Core.Path.{◌≡◌, refl, ap, sym, ◌∙◌}
-use mathlib.Core.Bool.{Bool, true, false, cond, ◌&&◌, ◌||◌, not, false≢true}
-use mathlib.Core.List.{List, [], ◌∷◌, map}
+use mathlib.Core.Path.{◌≡◌, refl}
+use mathlib.Core.Bool.{Bool, true, false, cond, not, false≢true}
+use mathlib.Core.List.{List, ◌∷◌}
 use mathlib.Core.Option.{Option, none, some}
 use Prim.Native.Nat.{ℕ}
 use lib.Dec.{eqb}
@@ -12,7 +12,7 @@ use Rattle.trace.specs.declared.Line.{Line}
 use Rattle.trace.specs.declared.Reading.TheVariants.{Good}
 use Rattle.judge_rules.specs.Said.{said}
 use Rattle.judge_rules.specs.Ranges.{inside}
-use Rattle.judge_rules.specs.Rules.{Judge, open_first, in_runs, R0, R7, R8}
+use Rattle.judge_rules.specs.Rules.{Judge, R0, R7, R8}
 use Rattle.judge_rules.specs.Verdict.{Step, on, broken, beyond, ruled, sized, recorded, answered, ended, taken, judged, step}
 use Rattle.judge_rules.specs.SoFar.{call, waiting, held, mapped}
 use Rattle.judge_rules.specs.Meaning.{live}

@@ -7,13 +7,12 @@ use mathlib.Core.Option.{Option, none, some}
 use Prim.Native.Nat.{ℕ, zero, suc, ◌+◌, ◌*◌, ◌/◌, ◌≤◌, ◌<◌}
 use native.Mathlib.Omega.{arith}
 use native.Mathlib.Nat.{div-zero, div-mul-le_self}
-use borrow.Author.Tests.{eqb-true, leb-true, ltb-true, eq-eqb, ne_eqb, le-leb, lt-ltb}
+use borrow.Author.Tests.{leb-true, ltb-true, ne_eqb, le-leb, lt-ltb}
 use lib.Dec.{ltb, leb, eqb}
 use Rattle.lists.specs.Tests.{All, Pairs, Member, every, filter, distinct}
 use Rattle.lists.proofs.Tests.{cases_eq, both, either, all_implies, all_filter}
 use Rattle.lists.proofs.Every.{and-true}
 use Rattle.judge_rules.specs.Ranges.{inside, clear, pages_from, pages}
-use Rattle.judge_rules.specs.Rules.{Page, is_mapped}
 use Rattle.judge_rules.specs.Meaning.{there}
 
 pub pairs-filter {ℓ} : {A : Type ℓ} (R : A → A → Type 0) (p : A → Bool) (l : List A) → Pairs R l → Pairs R (filter p l)

@@ -31,7 +31,7 @@ use Rattle.judge_rules.specs.Sizes.{
   too_many_live,
   too_many_mapped,
 }
-use Rattle.judge_rules.specs.SoFar.{page_size, va_size, call, waiting, over, reservations, Held, held, Mapped, mapped, last}
+use Rattle.judge_rules.specs.SoFar.{page_size, va_size, call, waiting, over, reservations, held, Mapped, mapped, last}
 use Rattle.judge_rules.specs.Meaning.{Buffer, left_by, live, newest_first}
 use Rattle.judge_rules.specs.declared.Call.{Call}
 use Rattle.judge_rules.specs.declared.Call.TheVariants.{Open, Malloc, Free, Close}

@@ -1,5 +1,5 @@
 -- docs/RULES.md 8.9: what a trace means, from its lines alone and not from the judge's state. The lines so far are a list, the newest first.
-use Rattle.std.specs.Prelude.{◌≡◌, Bool, true, cond, ◌&&◌, not, List, [], ◌∷◌, map, ℕ, ◌+◌, ◌%◌, ◌≤◌, ◌<◌, eqb}
+use Rattle.std.specs.Prelude.{◌≡◌, true, cond, not, List, [], ◌∷◌, map, ℕ, ◌+◌, ◌%◌, ◌≤◌, ◌<◌, eqb}
 use Rattle.std.proofs.Math.Option.{Option, none, some}
 use Rattle.lists.specs.Tests.{All, Pairs, Member, filter, distinct}
 use Rattle.trace.specs.declared.Line.{Line}
