@@ -16,7 +16,7 @@ compare:
 	@bash scripts/runnable replay replay_tables
 	@bash compare/run target/run/replay target/run/replay_tables
 	@bash compare/scale $(SESSIONS) target/run/replay target/run/replay_tables
-	@rt staticlib finder >target/run/staticlib.out 2>&1 || { cat target/run/staticlib.out >&2; exit 1; }
+	@bash scripts/library finder
 	@bash compare/lockstep $(SESSIONS)
 	@bash compare/managers $(CALLS)
 

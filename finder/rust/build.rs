@@ -1,4 +1,4 @@
-//! Finds libfinder.a, which `rt staticlib finder` writes, and says how to make it where it is
+//! Finds libfinder.a, which `scripts/library finder` writes, and says how to make it where it is
 //! missing.
 
 use std::{
@@ -23,7 +23,7 @@ fn main() {
     println!("cargo:rerun-if-changed={}", library.display());
     if !library.is_file() {
         fail(&format!(
-            "there is no {}: run `rt staticlib finder` at the root of the repository, or set \
+            "there is no {}: run `scripts/library finder` at the root of the repository, or set \
              {FOLDER} to the absolute path of the folder that holds {LIBRARY}",
             library.display()
         ));
