@@ -1,5 +1,5 @@
 -- What `gather` does with a chunk, whatever may follow it.
-use Rattle.std.specs.Prelude.{◌≡◌, true, false, cond, List, [], ◌∷◌, ◌++◌, ℕ, ◌+◌, ◌*◌, ◌≤◌, ◌<◌, length, take, drop}
+use Rattle.std.specs.Prelude.{◌≡◌, true, cond, List, [], ◌∷◌, ◌++◌, ℕ, ◌+◌, ◌*◌, ◌≤◌, ◌<◌, length, take, drop}
 use Rattle.trace.specs.Chunks.{lines_from}
 use Rattle.trace.specs.Machine.{fresh}
 use Rattle.trace.specs.declared.Line.{Line}
