@@ -6,6 +6,13 @@ use named_files::{NAME_ROOM, Named, Wish, asked_for, is_word, open_named, say};
 use std::io::Write;
 use std::rt::{Env, Files};
 
+fn help(to: &mut impl Write) {
+    say(
+        to,
+        b"usage: judge [FILE..]\n\nReads a trace and prints one line on standard output: accepted, rejected or large, the\nnumber of the line, and the number of the rule or of what is too large; and why, in words,\non standard error. Without a file it reads standard input; of several files each line has\nthe file's name before it.\ndocs/TRACES.md says what the rules are, and what to look at.\n",
+    );
+}
+
 fn one<R: Env + Files>(rt: &R, to: &mut impl Write, err: &mut impl Write, i: usize, named: bool) {
     let mut name = [0u8; NAME_ROOM];
     let Named { file, length } = open_named(rt, err, i, &mut name);
@@ -34,10 +41,7 @@ fn main(rt: HostRuntime) {
     let mut err = rt.stderr();
     let mut input = rt.stdin();
     match asked_for(&rt, &input, &mut err, b"judge") {
-        Wish::Help => say(
-            &mut out,
-            b"usage: judge [FILE..]\n\nReads a trace and prints one line on standard output: accepted, rejected or large, the\nnumber of the line, and the number of the rule or of what is too large; and why, in words,\non standard error. Without a file it reads standard input; of several files each line has\nthe file's name before it.\ndocs/TRACES.md says what the rules are, and what to look at.\n",
-        ),
+        Wish::Help => help(&mut out),
         Wish::Refused => {}
         Wish::Input => pump(&mut input, &mut out, &mut err, b"", WordsTo::Errors),
         Wish::Files => each(&rt, &mut out, &mut err),
