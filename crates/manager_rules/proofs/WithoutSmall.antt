@@ -8,7 +8,6 @@ use native.Mathlib.Omega.{arith}
 use borrow.Author.Tests.{le-ltb}
 use lib.Dec.{ltb, leb, eqb}
 use lib.ListN.{length}
-use Rattle.lists.specs.Tests.{first}
 use Rattle.words.specs.declared.Record.{Record}
 use Rattle.tables.specs.Bounds.{IDS}
 use Rattle.tables.specs.Values.{Tables, closed, stopped, at_entry}
