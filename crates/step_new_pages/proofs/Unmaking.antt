@@ -8,7 +8,7 @@ use lib.ListN.{length, get_or, drop}
 use Rattle.lists.specs.Order.{Rises}
 use Rattle.lists.proofs.Cells.{turn, ends}
 use Rattle.lists.proofs.Filled.{filled-length}
-use Rattle.tables.specs.Values.{Tables, page, pages_of, empty_page}
+use Rattle.tables.specs.Values.{Tables, pages_of, empty_page}
 use Rattle.tables.specs.Kept.{KeptPages}
 use Rattle.tables.specs.Steps.{Ending, each}
 use Rattle.tables.specs.NewPages.{at, unmake, new_pages}

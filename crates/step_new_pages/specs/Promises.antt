@@ -2,7 +2,7 @@
 use Rattle.std.specs.Prelude.{◌≡◌, Bool, ◌&&◌, List, ℕ, ◌+◌, ◌*◌, ◌≤◌, ◌<◌, leb, ltb, length}
 use Rattle.lists.specs.Order.{Rises}
 use Rattle.tables.specs.Bounds.{END, HOLES}
-use Rattle.tables.specs.Values.{Tables, page, holes_of, pages_of, with_holes, with_pages}
+use Rattle.tables.specs.Values.{Tables, holes_of, pages_of, with_holes, with_pages}
 use Rattle.tables.specs.Kept.{KeptHoles, KeptPages}
 use Rattle.tables.specs.InsertHole.{Apart, insert_hole}
 use Rattle.tables.specs.NewPages.{Room as Taken, at, unmake, new_pages, roll_back, make_pages}
