@@ -1,7 +1,7 @@
 -- What a line's steps ask of the state and of the tables that they are lent, and what they promise: the state and the tables after them are what the rules
 -- and the walk of crates/judge_rules say.
 use Rattle.std.specs.Prelude.{◌≡◌, Bool, true, List, ℕ, ◌*◌, ◌≤◌, ◌<◌, length}
-use Rattle.std.specs.Borrow.{Bor}
+use Rattle.std.specs.Borrow.{MutBor}
 use denote.Triple.Both.{Both}
 use Rattle.words.specs.declared.Word.{Word}
 use Rattle.words.specs.declared.Word.TheVariants.{Reserve, Create, Map, Access, Unmap, Release, Giveback}
@@ -20,7 +20,7 @@ use Rattle.judge_steps.specs.declared.Stepped.{Stepped}
 
 -- a lent slice, at the call and behind it
 abbrev pub Slice : Type 0
-Slice = Both (Bor (List ℕ)) (Bor (List ℕ))
+Slice = Both (MutBor (List ℕ)) (MutBor (List ℕ))
 
 -- what the four hold as a call finds them, and as it leaves them
 abbrev pub found : Slice → Slice → Slice → Slice → Lent

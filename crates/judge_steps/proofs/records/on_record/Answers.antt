@@ -1,0 +1,19 @@
+-- `judge_steps::records::on_record` meets its contract, word by word.
+use mathlib.Core.Path.{ap, sym, ◌∙◌}
+use Rattle.judge_rules.specs.Verdict.{recorded}
+use Rattle.judge_steps.specs.State.{lent, judge_of}
+use Rattle.judge_steps.proofs.records.on_record.Goals as goal
+
+pub returns-in-Wait : goal.returns-in-Wait
+unfolding recorded
+returns-in-Wait c =
+    let v = c.args in
+    let ts = lent v.reservations.now v.held.now v.mapped.now v.live.now in
+    c.on_asked-in-Wait.ensures ts ∙ ap (λ w. recorded w (judge_of v.s ts) v.a v.b) (sym c.in-Wait.is)
+
+pub returns-in-Sync : goal.returns-in-Sync
+unfolding recorded
+returns-in-Sync c =
+    let v = c.args in
+    let ts = lent v.reservations.now v.held.now v.mapped.now v.live.now in
+    ap (λ w. recorded w (judge_of v.s ts) v.a v.b) (sym c.in-Sync.is)
