@@ -8,7 +8,6 @@ use lib.ListN.{length, take, drop}
 use Rattle.tables.specs.declared.Pool.{Pool}
 use Rattle.trace.specs.Chunks.{lines_from}
 use Rattle.trace.specs.Form.{bad_line}
-use Rattle.trace.specs.declared.Reading.TheVariants as readings
 use Rattle.trace.proofs.Put.{put_front, put-length}
 use Rattle.replay_answers.specs.Promises.{KEPT, Keeps}
 use Rattle.replay_rules.specs.Replay.{replay_from, replay_lines}
