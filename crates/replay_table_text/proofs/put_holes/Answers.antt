@@ -1,0 +1,26 @@
+-- `replay_table_text::put_holes` meets its contract, by the law of the loop.
+use mathlib.Core.Path.{◌≡◌}
+use native.Mathlib.Omega.{arith}
+use borrow.Author.Rules.{rules}
+use lib.ListN.{length}
+use Rattle.lists.proofs.Tests.{length-mapped}
+use Rattle.tables.specs.Bounds.{HOLES}
+use Rattle.tables.specs.Values.{holes_of, empty_hole}
+use Rattle.replay_table_text.specs.Tables.{hole_entry}
+use Rattle.replay_table_text.proofs.Walks.{none_yet, one_more, all-put}
+use Rattle.replay_table_text.proofs.put_holes.Goals as goal
+
+pub loop-i-init : goal.loop-i-init
+loop-i-init c = none_yet _ _ _ _ _ _ (omega arith)
+
+pub loop-i-preserved : goal.loop-i-preserved
+unfolding hole_entry
+loop-i-preserved c =
+    let size : length c.args.t.cells ≡ HOLES = search (rules, length-mapped) in
+    one_more c.loop-i.invariant empty_hole c.loop-i-test.true (omega (arith, c.within-count.ensures, size)) c.put_entry-next.ensures
+
+pub returns : goal.returns
+unfolding holes_of
+returns c =
+    let size : length c.args.t.cells ≡ HOLES = search (rules, length-mapped) in
+    all-put c.loop-i.invariant HOLES c.args.t.count size c.within-count.ensures c.loop-i-test.false

@@ -1,0 +1,35 @@
+-- `replay_table_text::put_tables` meets its contract: each table ends where the next begins.
+use mathlib.Core.Path.{◌≡◌}
+use native.Mathlib.Omega.{arith}
+use borrow.Author.Tests.{eq-eqb, ne_eqb}
+use Rattle.tables.specs.Values.{tables_of}
+use Rattle.tables.specs.declared.Pool.{Pool}
+use Rattle.replay_table_text.specs.Tables.{counter_entry, none_entry, entries, tables_text}
+use Rattle.replay_table_text.proofs.Walks.{puts_then, puts_as}
+use Rattle.replay_table_text.proofs.put_tables.Goals as goal
+
+closed-text : (p : Pool) → p.state ≡ 0 → none_entry ≡ tables_text p
+unfolding tables_text
+closed-text p e = rw (eq-eqb p.state 0 e)
+
+open-text : (p : Pool) → (p.state ≡ 0 → ⊥) → entries (tables_of p) ≡ tables_text p
+unfolding tables_text
+open-text p n = rw (ne_eqb p.state 0 n)
+
+pub returns-then-pool-eq0 : goal.returns-then-pool-eq0
+unfolding none_entry
+returns-then-pool-eq0 c =
+    puts_as (closed-text c.args.pool c.if-pool-eq0.true) (omega arith) c.put_entry.ensures
+
+pub returns : goal.returns
+unfolding counter_entry entries tables_of
+returns c =
+    puts_as
+    (open-text c.args.pool c.if-pool-eq0.false)
+    (omega arith)
+    (puts_then c.put_free-live.ensures
+    (puts_then c.put_live-holes.ensures
+    (puts_then c.put_holes-zombies.ensures
+    (puts_then c.put_zombies-pages.ensures
+    (puts_then c.put_pages-roots.ensures
+    (puts_then c.put_roots-counter.ensures c.put_entry-2.ensures))))))
