@@ -1,0 +1,49 @@
+-- `pool_entry::standing::buffers_stand` meets its contract. The invariants: all ascend exactly where those that are left do; past the count, every sum
+-- is 0 exactly where the cells looked at are.
+use mathlib.Core.Path.{◌≡◌, refl, ◌∙◌}
+use mathlib.Core.List.{[], ◌∷◌}
+use native.Mathlib.Omega.{arith}
+use borrow.Author.Rules.{rules}
+use Rattle.lists.proofs.InOrder.{ascends-sorted, ascends-end}
+use Rattle.tables.specs.Values.{live_of, empty_buffer}
+use Rattle.pool_entry.proofs.ZeroCells.{buffer_numbers, buffer-none}
+use Rattle.pool_entry.proofs.Exact.{joined-turn, joined_end, ascends-on, ascends-not, unsorted, refuses, beside}
+use Rattle.pool_entry.proofs.standing.buffers_stand.Goals as goal
+
+-- a cell below the one before it
+pub returns-then-b-least : goal.returns-then-b-least
+unfolding live_of
+returns-then-b-least c =
+    let t = c.args.t in
+    let l = c.loop-i in
+    let n = ascends-not (λ b. b.start.0) t.count t.cells l.i l.least empty_buffer (omega arith) (omega arith) c.if-b-least.true in
+    refuses (λ k. unsorted (λ b. b.start.0) (live_of t) (l.invariant.1.1 ∙ n) k.1)
+
+pub loop-i-preserved : goal.loop-i-preserved
+unfolding live_of
+loop-i-preserved c =
+    let t = c.args.t in
+    let l = c.loop-i in
+    let n = ascends-on (λ b. b.start.0) t.count t.cells l.i l.least empty_buffer (omega arith) (omega arith) c.if-b-least.false in
+    ((search rules, search rules), (search rules, l.invariant.1.1 ∙ n))
+
+pub loop-i-2-init : goal.loop-i-2-init
+unfolding live_of
+loop-i-2-init c =
+    let t = c.args.t in
+    let l = c.loop-i in
+    let n : l.i ≡ t.count = omega arith in (
+      l.invariant.1.1 ∙ ascends-end (λ b. b.start.0) t.count t.cells l.i l.least (omega arith),
+      record { whole = l.invariant.1.0; from = omega arith; upto = omega arith; yes = λ _. rw n (λ e. e); no = λ _. (refl, (refl, (refl, tt))) },
+    )
+
+pub loop-i-2-preserved : goal.loop-i-2-preserved
+loop-i-2-preserved c =
+    let l = c.loop-i-2 in
+    (l.invariant.0, joined-turn buffer_numbers buffer-none (l.starts ∷ l.sizes ∷ l.streams ∷ []) l.invariant.1 (omega arith))
+
+pub returns : goal.returns
+returns c =
+    let t = c.args.t in
+    let l = c.loop-i-2 in
+    beside (joined_end l.starts (l.sizes ∷ l.streams ∷ []) l.invariant.1 (omega arith)) (ascends-sorted (λ b. b.start.0) 0 (live_of t) l.invariant.0)

@@ -1,0 +1,49 @@
+-- `pool_entry::standing::regions_stand` meets its contract. The invariants: all ascend exactly where those that are left do; past the count, every sum
+-- is 0 exactly where the cells looked at are.
+use mathlib.Core.Path.{◌≡◌, refl, ◌∙◌}
+use mathlib.Core.List.{[], ◌∷◌}
+use native.Mathlib.Omega.{arith}
+use borrow.Author.Rules.{rules}
+use Rattle.lists.proofs.InOrder.{ascends-sorted, ascends-end}
+use Rattle.tables.specs.Values.{free_of, empty_region}
+use Rattle.pool_entry.proofs.ZeroCells.{region_numbers, region-none}
+use Rattle.pool_entry.proofs.Exact.{joined-turn, joined_end, ascends-on, ascends-not, unsorted, refuses, beside}
+use Rattle.pool_entry.proofs.standing.regions_stand.Goals as goal
+
+-- a cell below the one before it
+pub returns-then-q-least : goal.returns-then-q-least
+unfolding free_of
+returns-then-q-least c =
+    let t = c.args.t in
+    let l = c.loop-i in
+    let n = ascends-not (λ q. q.start.0) t.count t.cells l.i l.least empty_region (omega arith) (omega arith) c.if-q-least.true in
+    refuses (λ k. unsorted (λ q. q.start.0) (free_of t) (l.invariant.1.1 ∙ n) k.1)
+
+pub loop-i-preserved : goal.loop-i-preserved
+unfolding free_of
+loop-i-preserved c =
+    let t = c.args.t in
+    let l = c.loop-i in
+    let n = ascends-on (λ q. q.start.0) t.count t.cells l.i l.least empty_region (omega arith) (omega arith) c.if-q-least.false in
+    ((search rules, search rules), (search rules, l.invariant.1.1 ∙ n))
+
+pub loop-i-2-init : goal.loop-i-2-init
+unfolding free_of
+loop-i-2-init c =
+    let t = c.args.t in
+    let l = c.loop-i in
+    let n : l.i ≡ t.count = omega arith in (
+      l.invariant.1.1 ∙ ascends-end (λ q. q.start.0) t.count t.cells l.i l.least (omega arith),
+      record { whole = l.invariant.1.0; from = omega arith; upto = omega arith; yes = λ _. rw n (λ e. e); no = λ _. (refl, (refl, (refl, (refl, tt)))) },
+    )
+
+pub loop-i-2-preserved : goal.loop-i-2-preserved
+loop-i-2-preserved c =
+    let l = c.loop-i-2 in
+    (l.invariant.0, joined-turn region_numbers region-none (l.starts ∷ l.sizes ∷ l.streams ∷ l.ids ∷ []) l.invariant.1 (omega arith))
+
+pub returns : goal.returns
+returns c =
+    let t = c.args.t in
+    let l = c.loop-i-2 in
+    beside (joined_end l.starts (l.sizes ∷ l.streams ∷ l.ids ∷ []) l.invariant.1 (omega arith)) (ascends-sorted (λ q. q.start.0) 0 (free_of t) l.invariant.0)
