@@ -62,7 +62,7 @@ module _ (p : Pool) (s : Judge) (h : Stands p s) where
       reached w e f =
           subst (λ w. Fair (addresses s.mapped) (map of_record w.records) →
           Reached (λ _ t y. y.run ≡ (calling closes s).run) (λ _ _ _. ⊥) (calling closes s) (map of_record w.records) w.tables w.ending) (sym e)
-          (λ f. (judges-close_steps (calling closes s).run (inside_calling closes s h.over) refl h.lost h.tables h.kept).reads xs 0 h.tables (calling closes s)
+          (λ f. (judges-close_steps (calling closes s).run (inside_calling closes s h.over) refl h.lost h.tables h.kept {E = λ _ _ _. ⊥}).reads xs 0 h.tables (calling closes s)
           (refl, agrees_calling closes h.agrees) f) f
 
   pub close-read : (xs : List ℕ) (log : ℕ) → Read closes p s (close p xs log)

@@ -26,6 +26,7 @@ counted-once key x y (z ∷ l) (inl e) (inr n) q h =
 counted-once key x y (z ∷ l) (inr m) (inl f) q h =
     absurd (omega (arith, ap (λ a. equal (key a) (key x)) f, equal-same (key x), ap (λ a. equal a (key x)) q, sum-member (λ a. equal (key a) (key x)) x l m))
 counted-once key x y (z ∷ l) (inr m) (inr n) q h = counted-once key x y l m n q (omega arith)
+counted-once {A = A} key x y [] x5 _ q h = elim x5 [ ]
 
 -- an address that a range does not cover, as the judge tests it
 pub inside-none : (a n x : ℕ) → within a n x ≡ 0 → inside a n x ≡ false

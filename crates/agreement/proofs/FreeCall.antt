@@ -120,7 +120,7 @@ module _ (p : Pool) (s : Judge) (h : Stands p s) where
   reached b xs w e m =
       subst (λ w. Fair (addresses s.mapped) (map of_record w.records) →
       Reached (λ o t y. Kept h.lost t × Gone (calling (frees b.start.0) s).run b o t y) (λ _ _ _. ⊥) (calling (frees b.start.0) s) (map of_record w.records) w.tables w.ending) (sym e)
-      ((judges-free_steps (serving b.start.0) h.lost b).reads xs 0 h.tables (calling (frees b.start.0) s) ((h.kept, m), agrees_calling (frees b.start.0) h.agrees))
+      ((judges-free_steps (serving b.start.0) h.lost b {E = λ _ _ _. ⊥}).reads xs 0 h.tables (calling (frees b.start.0) s) ((h.kept, m), agrees_calling (frees b.start.0) h.agrees))
 
   served : (b : LiveBuffer) (xs : List ℕ) (w : Went Outcome) → w ≡ free_steps b xs 0 h.tables → Member b h.tables.live → Read (frees b.start.0) p s (finished p w)
   served b xs w e m =

@@ -26,7 +26,7 @@ use Rattle.judge_rules.specs.Ranges.{inside}
 use Rattle.judge_rules.specs.Rules.{Page, Judge, whole_pages, none_live, in_buffers, alone, no_handle_twice, R7}
 use Rattle.judge_rules.specs.declared.Run.{Run}
 use Rattle.judge_rules.proofs.PageLaws.{inside_is}
-use Rattle.agreement.specs.Agrees.{mapping, buffer, mapped_at, Agrees}
+use Rattle.agreement.specs.Agrees.{mapping, mapped_at, Agrees}
 use Rattle.agreement.proofs.Same.{same-any-back, any-is}
 use Rattle.agreement.proofs.Meets.{whole-mapped, none-live}
 use Rattle.agreement.proofs.Counted.{counted-once}

@@ -22,7 +22,7 @@ use Rattle.keeping.specs.Sound.{WholeRange}
 use Rattle.keeping.proofs.Cover.{within_out, equal-same, equal-positive}
 use Rattle.keeping.proofs.Whole.{aligned-add, aligned_sub, aligned-pages, aligned_next}
 use Rattle.keeping.proofs.Counting.{once-clear}
-use Rattle.judge_rules.specs.Ranges.{inside, clear, pages_from, pages}
+use Rattle.judge_rules.specs.Ranges.{clear, pages_from, pages}
 use Rattle.judge_rules.specs.Rules.{Reservation, Page, Live, Judge, is_in, is_mapped, whole_pages, none_live, in_reservation, not_above, rises, R9_recorded, R9_asked}
 use Rattle.judge_rules.specs.Verdict.{ended}
 use Rattle.judge_rules.specs.declared.Run.{Run}

@@ -92,6 +92,7 @@ module _ {A B : Type 0} {f : B → A} {l : List A} {m : List B} (same : SameBy f
 
 -- what is true of some element, by a test that it passes
 pub any-member : {A : Type 0} (p : A → Bool) (x : A) (l : List A) → Member x l → p x ≡ true → any p l ≡ true
+any-member {A = A} p x [] x3 q = elim x3 [ ]
 any-member p x (y ∷ l) (inl e) q = rw (← e, q)
 any-member p x (y ∷ l) (inr m) q = go (p y) (any-member p x l m q)
   where
