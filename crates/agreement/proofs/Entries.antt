@@ -1,6 +1,6 @@
 -- An entry of a trace, a call's line, its records and its result: what each of the two outer lines does to the judge.
-use mathlib.Core.Path.{◌≡◌, refl}
-use mathlib.Core.Bool.{true, false, cond}
+use mathlib.Core.Path.{◌≡◌, refl, ap}
+use mathlib.Core.Bool.{true, false, cond, not}
 use mathlib.Core.List.{List, [], ◌∷◌, ◌++◌}
 use Prim.Native.Nat.{ℕ}
 use lib.Dec.{eqb}
@@ -44,7 +44,7 @@ step-result a b m s i = rw (i.opened, i.waiting, i.over)
 -- it is credible, unless it is 15
 pub credible-result : (a b m : ℕ) → eqb m 15 ≡ false → credible (result_line a b m) ≡ true
 unfolding credible said
-credible-result a b m e = rw e
+credible-result a b m e = cc (ap not e)
 
 -- an answer 0, 0, 1 after a close with result 0
 pub step-over : (s : Judge) → s.run.opened ≡ true → s.run.waiting ≡ true → s.run.over ≡ true →

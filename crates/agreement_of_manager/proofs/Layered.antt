@@ -7,6 +7,7 @@ use mathlib.Core.List.{List, []}
 use Prim.Native.Nat.{ℕ}
 use native.Mathlib.Omega.{arith}
 use lib.Dec.{eqb}
+use lib.ListN.{length}
 use lib.Seq.{take-nil, drop-nil}
 use Rattle.lists.specs.Tests.{every, any}
 use Rattle.words.specs.declared.Record.{Record}
@@ -90,7 +91,10 @@ refused-lines K m (mallocs n k) o none asks = go (request m.pool.page n)
     go smaller = none
     go (whole b) = asks (mallocs b k)
 refused-lines K m (frees a) o none asks = either_way K (any (λ b. eqb b.pointer a) (small m)) _ _ none (asks (frees a))
-refused-lines K m closes o none asks = simp (take-nil {A = Record}, drop-nil {A = Record}) (asks closes)
+refused-lines K m closes o none asks =
+    let k = length (small m) in
+    let e : lines_of m closes (refused m o) ≡ entry (line_of closes) [] o = cc (take-nil {A = Record} k, drop-nil {A = Record} k) in
+    subst K (sym e) (asks closes)
 
 module _ (m : Manager) (s : Judge) where
   -- whatever the number is, but 0, 15 and 17
