@@ -11,7 +11,7 @@ use Rattle.judge_rules.specs.Said.{said}
 use Rattle.judge_rules.specs.SoFar.{call}
 use Rattle.judge_rules.specs.declared.Call.{Call}
 use Rattle.summary_counts.specs.Counts.{answer_place_of, answer_place, failed_by, failure_place, live_bytes, mapped_bytes, higher}
-use Rattle.summary_counts.specs.Promises.{Firsts, Tables, Fits, Countable, Tells, Adds}
+use Rattle.summary_counts.specs.Promises.{Tables, Fits, Countable, Tells, Adds}
 use Rattle.summary_counts.specs.declared.Counts.{Counts}
 use Rattle.summary_counts.proofs.Places.{answer-fits, failure-fits}
 use Rattle.summary_counts.proofs.OneMore.{few-more, tally-more, first_more}

@@ -10,7 +10,7 @@ use Rattle.judge_rules.specs.Said.{said}
 use Rattle.judge_rules.specs.Sizes.{most_live}
 use Rattle.judge_rules.specs.declared.Asked.{Asked}
 use Rattle.judge_rules.specs.declared.Call.TheVariants.{Free}
-use Rattle.judge_tables.specs.Rows.{rows, stays, put_row}
+use Rattle.judge_tables.specs.Rows.{stays, put_row}
 use Rattle.judge_tables.specs.Promises as table
 use Rattle.judge_tables.specs.declared.Row.{Row}
 use Rattle.judge_steps.specs.Promises.{Room}

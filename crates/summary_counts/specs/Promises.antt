@@ -1,6 +1,6 @@
 -- What the counting of a line asks of the counts and of the tables that it is lent, and what it promises of them.
 use Rattle.std.specs.Prelude.{◌≡◌, List, ◌∷◌, ℕ, ◌+◌, ◌≤◌, ◌<◌, ◌^◌, length, get_or}
-use Rattle.std.specs.Borrow.{Bor}
+use Rattle.std.specs.Borrow.{MutBor}
 use denote.Triple.Both.{Both}
 use Rattle.trace.specs.declared.Line.{Line}
 use Rattle.judge_rules.specs.SoFar.{call}
@@ -35,7 +35,7 @@ abbrev pub tables : List ℕ → List ℕ → List ℕ → Tables
 tables answers firsts failures = record { answers = answers; firsts = firsts; failures = failures }
 
 abbrev pub Slice : Type 0
-Slice = Both (Bor (List ℕ)) (Bor (List ℕ))
+Slice = Both (MutBor (List ℕ)) (MutBor (List ℕ))
 
 abbrev pub tables_found : Slice → Slice → Slice → Tables
 tables_found answers firsts failures = tables answers.entry.now firsts.entry.now failures.entry.now
