@@ -33,7 +33,7 @@ loop-i-init c = none_yet _ _ _ _ _ _ (omega (arith, c.put_bytes-next.ensures.nex
 
 pub loop-i-preserved : goal.loop-i-preserved
 loop-i-preserved c =
-    one_more c.loop-i.invariant 0 c.loop-i-test.true (omega arith) (put-number _ (c.shared_slice_known-in-loop-i-1.given c.loop-i.i).fits c.put_field-next.ensures)
+    one_more c.loop-i.invariant 0 c.loop-i-test.true (omega arith) (put-number _ (c.type_inv.numbers c.loop-i.i).fits c.put_field-next.ensures)
 
 pub returns : goal.returns
 returns c =
