@@ -356,6 +356,7 @@ const SIZES: [usize; ROWS] = [0, 7, 6, 3, 6, 5, 7, 6, 5, 4, 4, 8, 4, 6, 4, 5, 6,
 const ROWS: usize = Line::LAST as usize + 1;
 
 // The row of a kind's word; a number that is no kind has none, as 0.
+#[tactic(auto, using(crate::proofs::Words::no_word), unfolding(crate::specs::Form::word))]
 fn table_row(kind: u64) -> usize
     ensures { (result ≤ last_kind) × (word result ≡ word kind) }
 {
