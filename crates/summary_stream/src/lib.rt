@@ -332,15 +332,7 @@ pub fn pump(input: &mut impl Read, to: &mut impl Write, err: &mut impl Write) {
                 &mut handed,
             );
             report(
-                to,
-                err,
-                last,
-                &mapped,
-                &live,
-                &answers,
-                &firsts,
-                &failures,
-                &handed,
+                to, err, last, &mapped, &live, &answers, &firsts, &failures, &handed,
             );
             return;
         }
