@@ -4,7 +4,7 @@ use Rattle.judge_reasons.proofs.fields.of_fields.Goals as goal
 
 pub returns-then-not-is_word : goal.returns-then-not-is_word
 unfolding IsTrueOf
-returns-then-not-is_word c = (c.find_byte-word.ensures, c.is_word.ensures (c.if-not-is_word.true))
+returns-then-not-is_word c = (c.find_byte-word.ensures, c.is_word.ensures c.if-not-is_word.true)
 
 pub returns-then-n-lt-TABS : goal.returns-then-n-lt-TABS
 unfolding IsTrueOf

@@ -13,7 +13,7 @@ returns-then-not-is_decimal c =
     let i = c.loop-at.at in
     let same : i + 1 - 1 ≡ i = omega arith in (
       record { behind = omega arith; tab = ap (λ k. get_or v k 0) same ∙ c.loop-at.invariant.1 (omega arith); upto = c.find_byte-end.ensures },
-      c.is_decimal.ensures (c.if-not-is_decimal.true),
+      c.is_decimal.ensures c.if-not-is_decimal.true,
     )
 
 pub returns : goal.returns
