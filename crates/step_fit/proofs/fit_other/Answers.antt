@@ -62,7 +62,7 @@ returns c =
     let is = ap free_of over ∙ free_pack _ in
     let within : i < length l = omega (arith, placed, free-count c.args.free c.requires.0.free) in
     record {
-      ran = λ t. rw (is, taken-over c.args.stream l i within)
+      ran = λ t. rw (← taken-over c.args.stream l i within, ← is) at
           (other-some c.args.stream _ _ c.smallest_complete-searched.result.ended (m.ran t) c.in-On.is (get_or l i empty_region)
           (chosen-some empty_region l c.smallest_complete-searched.result.choice _ refl i c.in-At.is));
       placed = rw is (simp length-map within);

@@ -36,11 +36,11 @@ returns-in_default c =
 pub put_free-with_region-requires : goal.put_free-with_region-requires
 put_free-with_region-requires c =
     let a = c.args in
+    let apart = c.split_merging-merging.ensures.apart in
     let few = fewer a.start.0 a.size a.stream a.free c.requires.0.free c.requires.0.room in
-    rw c.split_merging-merging.ensures.apart (
-      kept-others a.start.0 a.size a.stream a.free c.requires.0.free c.requires.0.room,
-      omega (arith, free-packed-count (filter (λ q. not (merges a.start.0 a.size a.stream q)) (free_of a.free)), few),
-    )
+    let others = free-packed-count (filter (λ q. not (merges a.start.0 a.size a.stream q)) (free_of a.free)) in
+    let kept = kept-others a.start.0 a.size a.stream a.free c.requires.0.free c.requires.0.room in
+    (rw (← apart) at kept, omega (arith, ap (λ f. f.count) apart, others, few))
 
 pub returns : goal.returns
 unfolding record_event
