@@ -162,7 +162,13 @@ fn serve(
 
 // From an open file: the verdict to standard output, and the words of why it is not accepted to there or to standard error, each with the name before it,
 // where that is not empty.
-pub fn pump(input: &mut impl Read, to: &mut impl Write, err: &mut impl Write, name: &[u8], words_to: WordsTo) {
+pub fn pump(
+    input: &mut impl Read,
+    to: &mut impl Write,
+    err: &mut impl Write,
+    name: &[u8],
+    words_to: WordsTo,
+) {
     let mut reservations: [u64; State::RESERVATION_NUMBERS] = [0; State::RESERVATION_NUMBERS];
     let mut held: [u64; State::HELD_NUMBERS] = [0; State::HELD_NUMBERS];
     let mut mapped: [u64; State::MAPPED_NUMBERS] = [0; State::MAPPED_NUMBERS];
