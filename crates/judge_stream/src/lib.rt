@@ -3,7 +3,7 @@
 #![tactic(auto)]
 
 mod lines;
-mod words;
+mod why;
 
 ghost use Rattle.std.specs.Prelude.{◌+◌, ◌≤◌, length};
 ghost use Rattle.trace.specs.Bounds.{longest_line};
@@ -15,7 +15,7 @@ ghost use Rattle.judge_stream.specs.Printed.{verdict_line};
 ghost use Rattle.judge_stream.specs.Promises.{most_read, Serves};
 
 use crate::lines::keep_under_way;
-use crate::words::put_words;
+use crate::why::put_words;
 use judge_chunks::{Progress, feed, finish};
 use judge_rules::Verdict;
 use judge_steps::State;
