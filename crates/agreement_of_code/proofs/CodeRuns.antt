@@ -11,7 +11,6 @@ use Rattle.tables.specs.Calls.{answer}
 use Rattle.trace.specs.Kinds.{of_record, open_line}
 use Rattle.trace.specs.declared.Line.{Line}
 use Rattle.trace.specs.declared.Reading.TheVariants.{Good}
-use Rattle.replay_lines.specs.Records.{records_in}
 use Rattle.replay_lines.specs.Traced.{line_of, result_of}
 use Rattle.replay_lines.proofs.Records.{records-written}
 use Rattle.calls.specs.Promises.{called, Replies}

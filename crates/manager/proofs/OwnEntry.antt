@@ -1,19 +1,16 @@
 -- What the layer's own tests refuse, its rule refuses.
 use mathlib.Core.Path.{◌≡◌, refl, ap, sym, ◌∙◌}
 use mathlib.Core.Bool.{Bool, true, false, cond, ◌&&◌, ◌||◌, not}
-use mathlib.Core.List.{List, []}
+use mathlib.Core.List.{List}
 use Prim.Native.Nat.{ℕ, ◌≤◌}
 use borrow.Author.Tests.{leb-true}
 use lib.Dec.{leb, eqb}
 use Rattle.lists.proofs.Tests.{both}
 use Rattle.words.proofs.Log.{written_none}
-use Rattle.tables.specs.Bounds.{IDS}
 use Rattle.tables.specs.Values.{closed, stopped}
 use Rattle.tables.specs.WellFormed as Pool
-use Rattle.tables.specs.HandsBack.{short_log}
 use Rattle.tables.specs.declared.Outcome.{Outcome}
-use Rattle.tables.specs.declared.Outcome.TheVariants.{PoolClosed, PoolStopped, NotWellFormed, ShortLog, IdsSpent}
-use Rattle.driving.specs.declared.Ended.{Ended}
+use Rattle.tables.specs.declared.Outcome.TheVariants.{PoolClosed, PoolStopped, NotWellFormed}
 use Rattle.driving.specs.declared.Ended.TheVariants.{On, Ends}
 use Rattle.driving.proofs.Endings.{not_on, ends-once}
 use Rattle.manager_rules.specs.WellFormed.{own_sound, own_kept}

@@ -2,19 +2,16 @@
 use Rattle.std.specs.Prelude.{◌≡◌, cond, List, ◌++◌, ℕ, ◌+◌, ◌*◌, ◌/◌, ◌≤◌, ◌<◌, ◌^◌, length, drop}
 use Rattle.words.specs.Log.{written}
 use Rattle.words.specs.declared.Record.{Record}
-use Rattle.words.specs.declared.Address.{Address}
 use Rattle.tables.specs.Bounds.{ROOTS}
 use Rattle.tables.specs.Outcomes.{is}
 use Rattle.tables.specs.Calls.{closes, answer}
 use Rattle.tables.specs.declared.Pool.{Pool}
 use Rattle.tables.specs.declared.Outcome.{Outcome}
-use Rattle.driving.specs.declared.Ended.{Ended}
-use Rattle.driving.specs.declared.Ended.TheVariants.{On, Ends}
 use Rattle.calls.specs.Promises as Calls
 use Rattle.calls.specs.declared.Called.{Called}
 use Rattle.manager_rules.specs.Values.{SMALLS, small_of, closed_manager}
 use Rattle.manager_rules.specs.Sizes as Sizes
-use Rattle.manager_rules.specs.HandsBack.{Reply, refused, admitted}
+use Rattle.manager_rules.specs.HandsBack.{admitted}
 use Rattle.manager_rules.specs.Malloc.{served}
 use Rattle.manager_rules.specs.Free.{free_found}
 use Rattle.manager_rules.specs.Close.{drops}

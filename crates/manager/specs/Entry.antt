@@ -1,12 +1,8 @@
 -- What is tested at entry: what the layer tests itself, and then what the pool does.
-use Rattle.std.specs.Prelude.{◌≡◌, cond, not, ℕ, leb, eqb}
-use Rattle.tables.specs.Bounds.{IDS}
+use Rattle.std.specs.Prelude.{◌≡◌, cond, eqb}
 use Rattle.tables.specs.Values.{closed, stopped}
-use Rattle.tables.specs.WellFormed.{well_formed}
-use Rattle.tables.specs.HandsBack.{short_log}
-use Rattle.tables.specs.declared.Pool.{Pool}
 use Rattle.tables.specs.declared.Outcome.{Outcome}
-use Rattle.tables.specs.declared.Outcome.TheVariants.{PoolClosed, PoolStopped, NotWellFormed, ShortLog, IdsSpent}
+use Rattle.tables.specs.declared.Outcome.TheVariants.{PoolClosed, PoolStopped, NotWellFormed}
 use Rattle.driving.specs.declared.Ended.{Ended}
 use Rattle.driving.specs.declared.Ended.TheVariants.{On, Ends}
 use Rattle.manager_rules.specs.WellFormed.{own_kept}

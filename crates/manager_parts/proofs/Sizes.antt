@@ -6,7 +6,7 @@ use native.Mathlib.Omega.{arith}
 use lib.Dec.{eqb}
 use borrow.Author.Tests.{lt-ltb, le-ltb, eq-eqb, ne_eqb}
 use Rattle.manager_rules.specs.Values.{BYTES}
-use Rattle.manager_rules.specs.Sizes.{Request, unfit, smaller, whole, rounded, request}
+use Rattle.manager_rules.specs.Sizes.{unfit, smaller, whole, rounded, request}
 
 pub rounded_even : (page n : ℕ) → n % page ≡ 0 → rounded page n ≡ n
 rounded_even page n e = rw (eq-eqb (n % page) 0 e) refl
