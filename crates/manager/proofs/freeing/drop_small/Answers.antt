@@ -1,10 +1,10 @@
 -- `manager::freeing::drop_small` meets its contract: what the pool refuses, or the driver's answer with its record.
 use mathlib.Core.Path.{◌≡◌, sym, ◌∙◌}
-use Prim.Native.Nat.{◌/◌, ◌≤◌}
+use Prim.Native.Nat.{◌/◌}
 use native.Mathlib.Omega.{arith}
 use lib.ListN.{length, get_or}
 use Rattle.driving.specs.declared.Ended.TheVariants.{On}
-use Rattle.manager_rules.specs.Values.{SMALLS, empty_small}
+use Rattle.manager_rules.specs.Values.{empty_small}
 use Rattle.manager_parts.specs.Promises.{pool_refused}
 use Rattle.manager.proofs.Entering.{admitted-stops}
 use Rattle.manager.proofs.Served.{replies-none}
@@ -19,24 +19,21 @@ returns-in_default c =
 
 pub offset_bounds-small-at : goal.offset_bounds-small-at
 offset_bounds-small-at c =
-    let few : c.args.manager.value.small.count ≤ SMALLS = own-few c.args.manager.value c.requires.0 in
-    omega (arith, few, c.requires.1)
+    omega (arith, own-few c.args.manager.value c.requires.0, c.requires.1)
 
 pub bounds-small-at : goal.bounds-small-at
 bounds-small-at c =
-    let few : c.args.manager.value.small.count ≤ SMALLS = own-few c.args.manager.value c.requires.0 in
-    omega (arith, few, c.requires.1)
+    omega (arith, own-few c.args.manager.value c.requires.0, c.requires.1)
 
 pub drop_answered-requires : goal.drop_answered-requires
 drop_answered-requires c =
-    let few : c.args.manager.value.small.count ≤ SMALLS = own-few c.args.manager.value c.requires.0 in
     let m = c.args.manager.value in
-    (few, rw (small_at m c.requires.0 c.args.at c.requires.1) at (small-held m c.requires.0 c.args.at c.requires.1))
+    (own-few m c.requires.0, rw (small_at m c.requires.0 c.args.at c.requires.1) at (small-held m c.requires.0 c.args.at c.requires.1))
 
 pub returns : goal.returns
 returns c =
-    let goes : let a = c.args in pool_refused a.manager.value.pool (length a.log.now / 4) ≡ On = sym c.pool_refused-refused.ensures.is ∙ c.in-On.is in
     let a = c.args in
+    let goes : pool_refused a.manager.value.pool (length a.log.now / 4) ≡ On = sym c.pool_refused-refused.ensures.is ∙ c.in-On.is in
     let b = get_or a.manager.value.small.cells a.at empty_small in
     rw (small_at a.manager.value c.requires.0 a.at c.requires.1)
     (drops-one a.manager c.requires.0 a.address.0 _ _ _ goes b _ (rw c.at-answer.ensures at c.drop_answered.ensures)
