@@ -74,12 +74,12 @@ pub fn reserve_root(
             made: n,
         };
     }
-    let with_root_lem = push_root(roots, Address(base));
+    let with_root = push_root(roots, Address(base));
     let rest = base + requested;
     let with_rest = insert_hole(holes, Address(rest), va - requested);
     Took {
         holes: with_rest,
-        roots: with_root_lem,
+        roots: with_root,
         start: Address(base),
         ended: Ended::On,
         made: n,

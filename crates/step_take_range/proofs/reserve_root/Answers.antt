@@ -42,13 +42,13 @@ returns c =
     let went_on : reserve_ended c.args.page c.args.va c.reserve-answer.result ≡ On = sym c.reserve_ended-ended.ensures ∙ c.in-On.is in
     let credible : credible_for c.args.page c.args.va c.value-base.result (roots_of c.args.roots) ≡ true = sym c.is_credible.ensures ∙ c.if-not-is_credible.false in
     let hs = ap holes_of c.insert_hole-with_rest.ensures ∙ holes_pack _ in
-    let rs = ap roots_of c.push_root-with_root_lem.ensures ∙ roots_pack _ in
+    let rs = ap roots_of c.push_root-with_root.ensures ∙ roots_pack _ in
     record {
       ran = λ t p v. rw (hs, rs)
           (root-on c.args.page c.args.va c.args.requested p v c.reserve-answer.result
           (c.reserve-answer.ensures (taking c.args.holes c.args.roots t))
           went_on c.value-base.result c.value-base.ensures credible);
       holes = rw c.insert_hole-with_rest.ensures (kept-rest c.requires.takeable _ _);
-      roots = rw c.push_root-with_root_lem.ensures (kept-root c.requires.takeable _ c.requires.count_bound.0);
+      roots = rw c.push_root-with_root.ensures (kept-root c.requires.takeable _ c.requires.count_bound.0);
       most = omega arith;
     }
