@@ -4,19 +4,26 @@ use mathlib.Core.Bool.{Bool, true, false, ◌&&◌, ◌||◌, and-false}
 use mathlib.Core.List.{List}
 use mathlib.Core.Option.{some, none}
 use Prim.Native.Nat.{ℕ, ◌+◌, ◌-◌, ◌/◌, ◌≤◌, ◌<◌}
+use native.Mathlib.Omega.{arith}
 use borrow.Author.Tests.{lt-ltb, le-ltb, le-leb, lt-leb}
 use lib.Dec.{ltb, leb}
 use lib.ListN.{length}
 use Rattle.tables.specs.Bounds.{HOLES, PAGES, ROOTS, ZOMBIES}
-use Rattle.tables.specs.Values.{Tables}
+use Rattle.tables.specs.Values.{Tables, tables_of, free_of, holes_of, zombies_of, pages_of}
+use Rattle.tables.specs.Kept.{KeptPool}
+use Rattle.tables.specs.InsertFree.{bytes}
 use Rattle.tables.specs.Steps.{Ending, on, ends, end_if}
 use Rattle.tables.specs.TakeRange.{smallest_hole}
 use Rattle.tables.specs.MakeRoom.{missing}
 use Rattle.tables.specs.Malloc.{no_hole, room_refused}
 use Rattle.tables.specs.declared.Hole.{Hole}
 use Rattle.tables.specs.declared.Outcome.{Outcome}
+use Rattle.tables.specs.declared.Pool.{Pool}
 use Rattle.tables.specs.declared.Outcome.TheVariants.{RequestedExceedsVa, PagesFull, ZombiesFull, RootsFull}
 use Rattle.driving.specs.Ran.{Ran, Point}
+use Rattle.tables.proofs.Packs.{free-count, holes-count, zombies-count, pages-count}
+use Rattle.driving.specs.declared.Ended.TheVariants.{Ends}
+use Rattle.step_make_room.specs.Promises.{Refuses}
 use Rattle.driving.proofs.Ran.{next, stop, gave, ended, looked, taken, passed}
 
 -- zombies and free regions, and the test for 10
@@ -85,3 +92,16 @@ module _ {xs : List ℕ} {s : Point} where
             hole-left h e =
                 let f : rootless n s.tables ≡ false = rw e in
                 last (not_so _ f)
+
+-- 10, by the counts that are tested: the zombies that there would be, with the holes, are as many as there is room for holes
+pub refuses_holes : (n : ℕ) (p : Pool) → KeptPool p → n ≤ p.va → missing n (tables_of p) / p.page ≤ PAGES - p.pages.count →
+    p.zombies.count + p.free.count ≤ ZOMBIES → HOLES ≤ p.zombies.count + p.free.count + p.holes.count → Refuses n p (Ends ZombiesFull)
+unfolding tables_of
+refuses_holes n p t fits pages pull full =
+    let few : length (pages_of p.pages) + (n - bytes (free_of p.free)) / p.page ≤ PAGES = omega (arith, pages-count p.pages t.pages, t.pages.most) in
+    let z = zombies-count p.zombies t.zombies in
+    let f = free-count p.free t.free in
+    let h = holes-count p.holes t.holes in
+    let pullable : length (zombies_of p.zombies) + length (free_of p.free) ≤ ZOMBIES = omega (arith, z, f) in
+    let crowds : (HOLES - 1) < length (zombies_of p.zombies) + length (free_of p.free) + length (holes_of p.holes) = omega (arith, z, f, h) in
+    record { ran = λ xs k l. holes-full n fits few pullable crowds }

@@ -17,6 +17,7 @@ use step_pull_in::pull_in;
 use tables::{Choice, Outcome, Pool};
 
 // No fit: 8, 9, 10, 11 in this order, or on.
+#[tactic(auto, using(crate::proofs::Refusing::refuses_holes))]
 pub fn room_refused(pool: Pool, requested: u64, missing: u64) -> Ended
     requires { Readable requested missing pool }
     ensures { Refuses requested pool result }

@@ -10,7 +10,7 @@ use Rattle.tables.specs.Choices.{chosen}
 use Rattle.tables.specs.InsertFree.{bytes}
 use Rattle.tables.specs.TakeRange.{smallest_hole}
 use Rattle.tables.proofs.Packs.{free-count, holes-count, zombies-count, pages-count, roots-count}
-use Rattle.step_make_room.proofs.Refusing.{too_large, pages-full, zombies-full, holes-full, roots-full, root-left, hole-left}
+use Rattle.step_make_room.proofs.Refusing.{too_large, pages-full, zombies-full, roots-full, root-left, hole-left}
 use Rattle.step_make_room.proofs.room_refused.Goals as goal
 
 pub returns-then-pool-requested : goal.returns-then-pool-requested
@@ -46,29 +46,6 @@ returns-then-pulled-gt-ZOMBIES c =
     ) in
     record { ran = λ xs k l. zombies-full _ fits few full }
 
-pub returns-then-pulled-pool-ge-HOLES : goal.returns-then-pulled-pool-ge-HOLES
-unfolding tables_of
-returns-then-pulled-pool-ge-HOLES c =
-    let fits : c.args.requested ≤ c.args.pool.va = omega (arith, c.if-pool-requested.false) in
-    let missing-is : let a = c.args in a.missing / a.pool.page ≡ (a.requested - bytes (free_of a.pool.free)) / a.pool.page = ap (λ m. m / c.args.pool.page) c.requires.lacks in
-    let few : let a = c.args in
-    length (pages_of a.pool.pages) + (a.requested - bytes (free_of a.pool.free)) / a.pool.page ≤ PAGES = omega (arith, c.if-left-missing.false, missing-is, pages-count c.args.pool.pages c.requires.tables.pages, c.requires.tables.pages.most) in
-    let pullable : let a = c.args in length (zombies_of a.pool.zombies) + length (free_of a.pool.free) ≤ SPANS = omega (
-      arith,
-      c.if-pulled-gt-ZOMBIES.false,
-      zombies-count c.args.pool.zombies c.requires.tables.zombies,
-      free-count c.args.pool.free c.requires.tables.free,
-    ) in
-    let full : (HOLES - 1) < length (zombies_of c.args.pool.zombies) + length (free_of c.args.pool.free) + length (holes_of c.args.pool.holes) =
-    omega (
-      arith,
-      c.if-pulled-pool-ge-HOLES.true,
-      zombies-count c.args.pool.zombies c.requires.tables.zombies,
-      free-count c.args.pool.free c.requires.tables.free,
-      holes-count c.args.pool.holes c.requires.tables.holes,
-    ) in
-    record { ran = λ xs k l. holes-full _ fits few pullable full }
-
 pub returns-then-pool-lt-ROOTS : goal.returns-then-pool-lt-ROOTS
 unfolding tables_of
 returns-then-pool-lt-ROOTS c =
@@ -85,7 +62,6 @@ returns-then-pool-lt-ROOTS c =
     let holes : let a = c.args in
     length (zombies_of a.pool.zombies) + length (free_of a.pool.free) + length (holes_of a.pool.holes) ≤ (HOLES - 1) = omega (
       arith,
-      c.if-pulled-pool-ge-HOLES.false,
       zombies-count c.args.pool.zombies c.requires.tables.zombies,
       free-count c.args.pool.free c.requires.tables.free,
       holes-count c.args.pool.holes c.requires.tables.holes,
@@ -110,7 +86,6 @@ returns-in_default c =
     let holes : let a = c.args in
     length (zombies_of a.pool.zombies) + length (free_of a.pool.free) + length (holes_of a.pool.holes) ≤ (HOLES - 1) = omega (
       arith,
-      c.if-pulled-pool-ge-HOLES.false,
       zombies-count c.args.pool.zombies c.requires.tables.zombies,
       free-count c.args.pool.free c.requires.tables.free,
       holes-count c.args.pool.holes c.requires.tables.holes,
@@ -137,7 +112,6 @@ returns c =
     let holes : let a = c.args in
     length (zombies_of a.pool.zombies) + length (free_of a.pool.free) + length (holes_of a.pool.holes) ≤ (HOLES - 1) = omega (
       arith,
-      c.if-pulled-pool-ge-HOLES.false,
       zombies-count c.args.pool.zombies c.requires.tables.zombies,
       free-count c.args.pool.free c.requires.tables.free,
       holes-count c.args.pool.holes c.requires.tables.holes,
