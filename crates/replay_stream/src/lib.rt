@@ -47,7 +47,13 @@ fn written(rt: &impl Env, to: &mut impl Write, err: &mut impl Write, bytes: &[u8
 }
 
 // The pool's tables; whether they could be written.
-fn show(rt: &impl Env, to: &mut impl Write, err: &mut impl Write, pool: Pool, out: &mut [u8]) -> bool
+fn show(
+    rt: &impl Env,
+    to: &mut impl Write,
+    err: &mut impl Write,
+    pool: Pool,
+    out: &mut [u8],
+) -> bool
     requires { longest_tables ≤ length out.old }
 {
     let value = pool.value;
@@ -207,7 +213,13 @@ fn serve(
 }
 
 // From an open file to standard output; after each result the pool's tables too, if they are asked for. `err` is standard error.
-pub fn pump(rt: &impl Env, input: &mut impl Read, to: &mut impl Write, err: &mut impl Write, tables: bool) {
+pub fn pump(
+    rt: &impl Env,
+    input: &mut impl Read,
+    to: &mut impl Write,
+    err: &mut impl Write,
+    tables: bool,
+) {
     let mut answers = replay_chunks::answers_buffer();
     let mut log = replay_chunks::log_buffer();
     let mut out = replay_chunks::text_buffer();
