@@ -15,7 +15,7 @@ fn help(to: &mut impl Write) {
 
 fn one<R: Env + Files>(rt: &R, to: &mut impl Write, err: &mut impl Write, i: usize, named: bool) {
     let mut name = [0u8; NAME_ROOM];
-    let Named { file, length } = open_named(rt, err, i, &mut name);
+    let Named { file, length } = open_named(rt, err, i, &mut name, b"a file's name");
     let Some(mut file) = file else {
         return;
     };

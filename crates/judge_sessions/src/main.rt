@@ -10,7 +10,7 @@ use std::rt::{Env, Files};
 
 fn one<R: Env + Files>(rt: &R, to: &mut impl Write, err: &mut impl Write, i: usize) {
     let mut path = [0u8; NAME_ROOM];
-    let named = open_named(rt, err, i, &mut path);
+    let named = open_named(rt, err, i, &mut path, b"path");
     let Some(mut file) = named.file else {
         return;
     };

@@ -51,15 +51,17 @@ pub fn say_failure(to: &mut impl Write, what: &[u8], error: io::Error) {
         length: 0,
     };
     let _ = fmt::Write::write(&mut text, error);
-    let n = text.length;
-    if n <= TEXT_ROOM {
-        let said = &text.bytes[..n];
-        say_why(to, what, &said[..without_number(said)]);
-    }
+    let said = &text.bytes[..text.length.min(TEXT_ROOM)];
+    say_why(to, what, &said[..without_number(said)]);
 }
 
 pub fn say_too_long(to: &mut impl Write, what: &[u8]) {
     say_why(to, what, b"File name too long");
+}
+
+// There is no such word.
+pub fn say_missing(to: &mut impl Write, what: &[u8]) {
+    say_why(to, what, b"Invalid argument");
 }
 
 // The library opens a file by a name that is text alone.

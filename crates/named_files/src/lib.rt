@@ -4,9 +4,9 @@
 
 mod failures;
 
-ghost use Rattle.std.specs.Prelude.{◌≤◌, length};
+ghost use Rattle.std.specs.Prelude.{◌≡◌, ◌≤◌, length, take};
 
-use crate::failures::{say_failure, say_no_text, say_too_long};
+use crate::failures::{say_failure, say_missing, say_no_text, say_too_long};
 use std::env::FillError;
 use std::fs::File;
 use std::io::{IsTerminal, Write};
@@ -57,7 +57,7 @@ fn refuse(to: &mut impl Write, program: &[u8], word: &[u8]) {
     say(to, b": --help says what it takes\n");
 }
 
-// What cannot be said on standard error can be said nowhere.
+// What can't be written is passed over.
 pub fn say(to: &mut impl Write, text: &[u8]) {
     let _ = to.write_all(text);
 }
@@ -126,22 +126,32 @@ pub fn asked_for(
     Wish::Files
 }
 
-// The file that word `i` names, where it can be opened; else that is told. Its name is put at the start of `name`.
+// The file that word `i` names, where it can be opened; else that is told, of a word that can't be had as of what it is `called`. Its name is put at the
+// start of `name`.
 pub fn open_named<R: Env + Files>(
     rt: &R,
     to: &mut impl Write,
     i: usize,
     name: &mut [u8],
+    called: &[u8],
 ) -> Named<R::File>
-    ensures { result.length ≤ length name.new }
+    ensures within { result.length ≤ length name.new }
+    ensures prefix { result.length ≡ length (take result.length name.new) }
 {
     match rt.arg(i, name) {
         Ok(n) => Named {
             file: opened(rt, to, &name[..n]),
             length: n,
         },
-        Err(_) => {
-            say_too_long(to, b"a file's name");
+        Err(FillError::TooLong) => {
+            say_too_long(to, called);
+            Named {
+                file: None,
+                length: 0,
+            }
+        }
+        Err(FillError::NotPresent) => {
+            say_missing(to, called);
             Named {
                 file: None,
                 length: 0,

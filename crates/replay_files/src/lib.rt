@@ -14,7 +14,7 @@ fn one<R: Env + Files>(
     named: bool,
 ) {
     let mut name = [0u8; NAME_ROOM];
-    let Named { file, length } = open_named(rt, err, i, &mut name);
+    let Named { file, length } = open_named(rt, err, i, &mut name, b"a file's name");
     let Some(mut file) = file else {
         return;
     };
