@@ -1,7 +1,7 @@
 -- `step_make_room::room_refused` meets its contract: each way out of it is a way of the rule, by what its tests told.
 use mathlib.Core.Path.{◌≡◌, ap, sym, ◌∙◌}
 use mathlib.Core.Option.{some, none}
-use Prim.Native.Nat.{◌+◌, ◌-◌, ◌/◌, ◌≤◌, ◌<◌}
+use Prim.Native.Nat.{ℕ, ◌+◌, ◌-◌, ◌/◌, ◌≤◌, ◌<◌}
 use native.Mathlib.Omega.{arith}
 use lib.ListN.{length, get_or}
 use Rattle.tables.specs.Bounds.{HOLES, PAGES, ROOTS, SPANS}
@@ -9,9 +9,30 @@ use Rattle.tables.specs.Values.{free_of, holes_of, zombies_of, pages_of, roots_o
 use Rattle.tables.specs.Choices.{chosen}
 use Rattle.tables.specs.InsertFree.{bytes}
 use Rattle.tables.specs.TakeRange.{smallest_hole}
+use Rattle.tables.specs.declared.Pool.{Pool}
 use Rattle.tables.proofs.Packs.{free-count, holes-count, zombies-count, pages-count, roots-count}
+use Rattle.step_make_room.specs.Promises.{Readable}
 use Rattle.step_make_room.proofs.Refusing.{too_large, pages-full, zombies-full, roots-full, root-left, hole-left}
 use Rattle.step_make_room.proofs.room_refused.Goals as goal
+
+module _ {n m : ℕ} {p : Pool} (g : Readable n m p) where
+  -- the pages that are missing, as the rule has them
+  missing-is : m / p.page ≡ (n - bytes (free_of p.free)) / p.page
+  unfolding tables_of
+  missing-is = ap (λ m. m / p.page) g.lacks
+
+  -- 9 is passed
+  few : m / p.page ≤ PAGES - p.pages.count → length (pages_of p.pages) + (n - bytes (free_of p.free)) / p.page ≤ PAGES
+  few h = omega (arith, missing-is, pages-count p.pages g.tables.pages, g.tables.pages.most)
+
+  -- 10 is passed, in its two parts
+  pullable : p.zombies.count + p.free.count ≤ SPANS → length (zombies_of p.zombies) + length (free_of p.free) ≤ SPANS
+  pullable h = omega (arith, zombies-count p.zombies g.tables.zombies, free-count p.free g.tables.free)
+
+  holes : p.zombies.count + p.free.count + p.holes.count < HOLES →
+      length (zombies_of p.zombies) + length (free_of p.free) + length (holes_of p.holes) ≤ (HOLES - 1)
+  holes h =
+      omega (arith, zombies-count p.zombies g.tables.zombies, free-count p.free g.tables.free, holes-count p.holes g.tables.holes)
 
 pub returns-then-pool-requested : goal.returns-then-pool-requested
 unfolding tables_of
@@ -24,99 +45,50 @@ nonzero_div-missing c = c.requires.kept.sound.page
 pub returns-then-left-missing : goal.returns-then-left-missing
 unfolding tables_of
 returns-then-left-missing c =
-    let fits : c.args.requested ≤ c.args.pool.va = omega (arith, c.if-pool-requested.false) in
-    let missing-is : let a = c.args in a.missing / a.pool.page ≡ (a.requested - bytes (free_of a.pool.free)) / a.pool.page = ap (λ m. m / c.args.pool.page) c.requires.lacks in
-    let full : PAGES < length (pages_of c.args.pool.pages) + (c.args.requested - bytes (free_of c.args.pool.free)) / c.args.pool.page =
-    omega (arith, c.if-left-missing.true, missing-is, pages-count c.args.pool.pages c.requires.tables.pages, c.requires.tables.pages.most) in
-    record { ran = λ xs k l. pages-full _ fits full }
+    let a = c.args in
+    let full : PAGES < length (pages_of a.pool.pages) + (a.requested - bytes (free_of a.pool.free)) / a.pool.page =
+    omega (arith, c.if-left-missing.true, missing-is c.requires, pages-count a.pool.pages c.requires.tables.pages, c.requires.tables.pages.most) in
+    record { ran = λ xs k l. pages-full _ c.if-pool-requested.false full }
 
 pub returns-then-pulled-gt-ZOMBIES : goal.returns-then-pulled-gt-ZOMBIES
 unfolding tables_of
 returns-then-pulled-gt-ZOMBIES c =
-    let fits : c.args.requested ≤ c.args.pool.va = omega (arith, c.if-pool-requested.false) in
-    let missing-is : let a = c.args in a.missing / a.pool.page ≡ (a.requested - bytes (free_of a.pool.free)) / a.pool.page = ap (λ m. m / c.args.pool.page) c.requires.lacks in
-    let few : let a = c.args in
-    length (pages_of a.pool.pages) + (a.requested - bytes (free_of a.pool.free)) / a.pool.page ≤ PAGES = omega (arith, c.if-left-missing.false, missing-is, pages-count c.args.pool.pages c.requires.tables.pages, c.requires.tables.pages.most) in
-    let full : SPANS < length (zombies_of c.args.pool.zombies) + length (free_of c.args.pool.free) =
-    omega (
-      arith,
-      c.if-pulled-gt-ZOMBIES.true,
-      zombies-count c.args.pool.zombies c.requires.tables.zombies,
-      free-count c.args.pool.free c.requires.tables.free,
-    ) in
-    record { ran = λ xs k l. zombies-full _ fits few full }
+    let p = c.args.pool in
+    let full : SPANS < length (zombies_of p.zombies) + length (free_of p.free) =
+    omega (arith, c.if-pulled-gt-ZOMBIES.true, zombies-count p.zombies c.requires.tables.zombies, free-count p.free c.requires.tables.free) in
+    record { ran = λ xs k l. zombies-full _ c.if-pool-requested.false (few c.requires c.if-left-missing.false) full }
 
 pub returns-then-pool-lt-ROOTS : goal.returns-then-pool-lt-ROOTS
 unfolding tables_of
 returns-then-pool-lt-ROOTS c =
-    let fits : c.args.requested ≤ c.args.pool.va = omega (arith, c.if-pool-requested.false) in
-    let missing-is : let a = c.args in a.missing / a.pool.page ≡ (a.requested - bytes (free_of a.pool.free)) / a.pool.page = ap (λ m. m / c.args.pool.page) c.requires.lacks in
-    let few : let a = c.args in
-    length (pages_of a.pool.pages) + (a.requested - bytes (free_of a.pool.free)) / a.pool.page ≤ PAGES = omega (arith, c.if-left-missing.false, missing-is, pages-count c.args.pool.pages c.requires.tables.pages, c.requires.tables.pages.most) in
-    let pullable : let a = c.args in length (zombies_of a.pool.zombies) + length (free_of a.pool.free) ≤ SPANS = omega (
-      arith,
-      c.if-pulled-gt-ZOMBIES.false,
-      zombies-count c.args.pool.zombies c.requires.tables.zombies,
-      free-count c.args.pool.free c.requires.tables.free,
-    ) in
-    let holes : let a = c.args in
-    length (zombies_of a.pool.zombies) + length (free_of a.pool.free) + length (holes_of a.pool.holes) ≤ (HOLES - 1) = omega (
-      arith,
-      zombies-count c.args.pool.zombies c.requires.tables.zombies,
-      free-count c.args.pool.free c.requires.tables.free,
-      holes-count c.args.pool.holes c.requires.tables.holes,
-    ) in
-    let left : length (roots_of c.args.pool.roots) < ROOTS =
-    omega (arith, c.if-pool-lt-ROOTS.true, roots-count c.args.pool.roots c.requires.tables.roots) in
-    record { ran = λ xs k l. root-left _ fits few pullable holes left }
+    let g = c.requires in
+    let left : length (roots_of c.args.pool.roots) < ROOTS = omega (arith, c.if-pool-lt-ROOTS.true, roots-count c.args.pool.roots g.tables.roots) in
+    record {
+      ran = λ xs k l. root-left _ c.if-pool-requested.false (few g c.if-left-missing.false) (pullable g c.if-pulled-gt-ZOMBIES.false)
+          (holes g (omega arith)) left;
+    }
 
 pub returns-in_default : goal.returns-in_default
 unfolding tables_of chosen
 returns-in_default c =
-    let fits : c.args.requested ≤ c.args.pool.va = omega (arith, c.if-pool-requested.false) in
-    let missing-is : let a = c.args in a.missing / a.pool.page ≡ (a.requested - bytes (free_of a.pool.free)) / a.pool.page = ap (λ m. m / c.args.pool.page) c.requires.lacks in
-    let few : let a = c.args in
-    length (pages_of a.pool.pages) + (a.requested - bytes (free_of a.pool.free)) / a.pool.page ≤ PAGES = omega (arith, c.if-left-missing.false, missing-is, pages-count c.args.pool.pages c.requires.tables.pages, c.requires.tables.pages.most) in
-    let pullable : let a = c.args in length (zombies_of a.pool.zombies) + length (free_of a.pool.free) ≤ SPANS = omega (
-      arith,
-      c.if-pulled-gt-ZOMBIES.false,
-      zombies-count c.args.pool.zombies c.requires.tables.zombies,
-      free-count c.args.pool.free c.requires.tables.free,
-    ) in
-    let holes : let a = c.args in
-    length (zombies_of a.pool.zombies) + length (free_of a.pool.free) + length (holes_of a.pool.holes) ≤ (HOLES - 1) = omega (
-      arith,
-      zombies-count c.args.pool.zombies c.requires.tables.zombies,
-      free-count c.args.pool.free c.requires.tables.free,
-      holes-count c.args.pool.holes c.requires.tables.holes,
-    ) in
-    let none_so : smallest_hole c.args.requested (holes_of c.args.pool.holes) ≡ none =
-    sym c.smallest_hole-hole.ensures.is ∙ ap (chosen empty_hole (holes_of c.args.pool.holes)) c.in_default.is in
+    let g = c.requires in
+    let l = holes_of c.args.pool.holes in
+    let none_so : smallest_hole c.args.requested l ≡ none = sym c.smallest_hole-hole.ensures.is ∙ ap (chosen empty_hole l) c.in_default.is in
     let spent : ROOTS ≤ length (roots_of c.args.pool.roots) =
-    omega (arith, c.if-pool-lt-ROOTS.false, roots-count c.args.pool.roots c.requires.tables.roots) in
-    record { ran = λ xs k l. roots-full _ fits few pullable holes none_so spent }
+    omega (arith, c.if-pool-lt-ROOTS.false, roots-count c.args.pool.roots g.tables.roots) in
+    record {
+      ran = λ xs k l. roots-full _ c.if-pool-requested.false (few g c.if-left-missing.false) (pullable g c.if-pulled-gt-ZOMBIES.false)
+          (holes g (omega arith)) none_so spent;
+    }
 
 pub returns : goal.returns
 unfolding tables_of chosen
 returns c =
-    let fits : c.args.requested ≤ c.args.pool.va = omega (arith, c.if-pool-requested.false) in
-    let missing-is : let a = c.args in a.missing / a.pool.page ≡ (a.requested - bytes (free_of a.pool.free)) / a.pool.page = ap (λ m. m / c.args.pool.page) c.requires.lacks in
-    let few : let a = c.args in
-    length (pages_of a.pool.pages) + (a.requested - bytes (free_of a.pool.free)) / a.pool.page ≤ PAGES = omega (arith, c.if-left-missing.false, missing-is, pages-count c.args.pool.pages c.requires.tables.pages, c.requires.tables.pages.most) in
-    let pullable : let a = c.args in length (zombies_of a.pool.zombies) + length (free_of a.pool.free) ≤ SPANS = omega (
-      arith,
-      c.if-pulled-gt-ZOMBIES.false,
-      zombies-count c.args.pool.zombies c.requires.tables.zombies,
-      free-count c.args.pool.free c.requires.tables.free,
-    ) in
-    let holes : let a = c.args in
-    length (zombies_of a.pool.zombies) + length (free_of a.pool.free) + length (holes_of a.pool.holes) ≤ (HOLES - 1) = omega (
-      arith,
-      zombies-count c.args.pool.zombies c.requires.tables.zombies,
-      free-count c.args.pool.free c.requires.tables.free,
-      holes-count c.args.pool.holes c.requires.tables.holes,
-    ) in
+    let g = c.requires in
     let l = holes_of c.args.pool.holes in
     let so : smallest_hole c.args.requested l ≡ some (get_or l c.in-At.field-0 empty_hole) =
     sym c.smallest_hole-hole.ensures.is ∙ ap (chosen empty_hole l) c.in-At.is in
-    record { ran = λ xs k l. hole-left _ fits few pullable holes _ so }
+    record {
+      ran = λ xs k l. hole-left _ c.if-pool-requested.false (few g c.if-left-missing.false) (pullable g c.if-pulled-gt-ZOMBIES.false)
+          (holes g (omega arith)) _ so;
+    }
