@@ -2,224 +2,110 @@
 #![tactic(auto)]
 
 ghost use Rattle.std.specs.Prelude.{◌≡◌, [], ◌+◌, ◌<◌, ◌^◌, length};
-ghost use Rattle.judge_steps.specs.State.{Lent, lent};
-ghost use Rattle.judge_steps.specs.Promises.{found, left};
-ghost use Rattle.judge_steps.specs.declared.Outcome.TheVariants.{On};
-ghost use Rattle.judge_chunks.specs.Promises.{at_start, verdict_on, verdict_after, TakesMore, TakesLine, Judged, Onward, Feeds, Lasts};
+ghost use Rattle.judge_chunks.specs.Promises.{verdict_on, verdict_after, IsStart, TakesLine, Judged, Onward, Feeds, Lasts};
 
-use judge_rules::{Asked, Call, Run, Verdict};
-use judge_steps::{Outcome, State, step};
+use judge_rules::Verdict;
+use judge_steps::{Fault, State};
 use trace::{Partial, Reading};
 
 // How far a trace is judged: the lines so far, what they have said, the part of a line that was read, and what the last line came to.
-#[derive(Clone, Copy)]
+#[derive(Drop)]
 pub struct Progress {
     pub lines: u64,
     pub state: State,
     pub partial: Partial,
-    pub outcome: Outcome,
+    pub outcome: Result<(), Fault>,
 }
 
-pub fn start() -> Progress
-    ensures { result ≡ at_start }
-{
-    let asked = Asked {
-        call: Call::Open,
-        first: 0,
-        second: 0,
-    };
-    let run = Run {
-        opened: false,
-        page: 0,
-        va: 0,
-        asked,
-        waiting: false,
-        over: false,
-    };
-    let state = State {
-        run,
-        reservations: 0,
-        held: 0,
-        mapped: 0,
-        live: 0,
-        recorded: false,
-        last: 0,
-    };
-    Progress {
-        lines: 0,
-        state,
-        partial: Partial::fresh(),
-        outcome: Outcome::On,
-    }
-}
-
-// What a line that was read says.
-fn on_reading(
-    p: Progress,
-    reservations: &mut [u64],
-    held: &mut [u64],
-    mapped: &mut [u64],
-    live: &mut [u64],
-    reading: Reading,
-) -> Progress
-    requires { TakesLine p (lent reservations.old held.old mapped.old live.old) }
-    ensures { Judged result p reading
-        (found reservations held mapped live) (left reservations held mapped live) }
-{
-    let lines = p.lines + 1;
-    let partial = Partial::fresh();
-    match reading {
-        Reading::Good(l) => {
-            let s = p.state;
-            let r = step(s, reservations, held, mapped, live, l);
-            let state = r.state;
-            let outcome = r.outcome;
-            Progress {
-                lines,
-                state,
-                partial,
-                outcome,
-            }
-        }
-        Reading::Malformed => {
-            let state = p.state;
-            Progress {
-                lines,
-                state,
-                partial,
-                outcome: Outcome::Broken(Verdict::R0),
-            }
+impl Progress {
+    // Before the first byte.
+    pub fn new() -> Progress
+        ensures { IsStart result }
+    {
+        Progress {
+            lines: 0,
+            state: State::new(),
+            partial: Partial::fresh(),
+            outcome: Ok(()),
         }
     }
-}
 
-// How far a chunk is read.
-#[derive(Clone, Copy)]
-pub struct Fed {
-    pub progress: Progress,
-    pub at: usize,
-}
-
-// One line of a chunk, or the part of one that stands at its end.
-fn feed_line(
-    p: Progress,
-    reservations: &mut [u64],
-    held: &mut [u64],
-    mapped: &mut [u64],
-    live: &mut [u64],
-    chunk: &[u8],
-    at: usize,
-) -> Fed
-    requires outcome_value { (p.outcome ≡ On) × (at < length chunk.now) }
-    requires takes_line { TakesLine p (lent reservations.old held.old mapped.old live.old) }
-    ensures { Onward result p at chunk.now
-        (found reservations held mapped live) (left reservations held mapped live) }
-{
-    let partial = p.partial;
-    let reach = partial.scan(chunk, at);
-    let part = reach.partial;
-    if reach.ended {
-        return Fed {
-            progress: on_reading(p, reservations, held, mapped, live, part.finish()),
-            at: reach.at,
+    // What a line that was read says.
+    fn on_reading(&mut self, reading: Reading)
+        requires { self.old.lines + 1 < 2 ^ 64 }
+        ensures { Judged self.new self.old reading }
+    {
+        self.lines += 1;
+        self.partial = Partial::fresh();
+        self.outcome = match reading {
+            Reading::Good(l) => self.state.step(l),
+            Reading::Malformed => Err(Fault::Broken(Verdict::R0)),
         };
     }
-    let state = p.state;
-    let outcome = p.outcome;
-    Fed {
-        progress: Progress {
-            lines: p.lines,
-            state,
-            partial: part,
-            outcome,
-        },
-        at: reach.at,
-    }
-}
 
-// A chunk of the bytes. Once a line is refused, or too much, what follows is not read.
-pub fn feed(
-    p: Progress,
-    reservations: &mut [u64],
-    held: &mut [u64],
-    mapped: &mut [u64],
-    live: &mut [u64],
-    chunk: &[u8],
-) -> Progress
-    requires { TakesMore (length chunk.now) p (lent reservations.old held.old mapped.old live.old) }
-    ensures { Feeds result p chunk.now
-        (found reservations held mapped live) (left reservations held mapped live) }
-{
-    let mut q = p;
-    let mut at: usize = 0;
-    while at < chunk.len() {
-        let outcome = q.outcome;
-        let Outcome::On = outcome else {
-            return q;
-        };
-        let fed = feed_line(q, reservations, held, mapped, live, chunk, at);
-        q = fed.progress;
-        at = fed.at;
-    }
-    q
-}
-
-// The end of the input: a last line without its line feed counts.
-fn last_line(
-    p: Progress,
-    reservations: &mut [u64],
-    held: &mut [u64],
-    mapped: &mut [u64],
-    live: &mut [u64],
-) -> Progress
-    requires { TakesMore 1 p (lent reservations.old held.old mapped.old live.old) }
-    ensures { Lasts result p (found reservations held mapped live) (left reservations held mapped live) }
-{
-    let outcome = p.outcome;
-    let Outcome::On = outcome else {
-        return p;
-    };
-    let partial = p.partial;
-    if partial.is_fresh() {
-        return p;
-    }
-    on_reading(p, reservations, held, mapped, live, partial.finish())
-}
-
-// The verdict on the lines so far, where none follows.
-fn settle(p: Progress) -> Verdict
-    requires { p.lines + 1 < 2 ^ 64 }
-    ensures { (t : Lent) → result ≡ verdict_on p t [] }
-{
-    let outcome = p.outcome;
-    match outcome {
-        Outcome::On => {
-            let s = p.state;
-            let run = s.run;
-            if !run.opened {
-                return Verdict::Rejected(p.lines + 1, Verdict::R0);
-            }
-            if run.waiting {
-                return Verdict::Rejected(p.lines + 1, Verdict::R0);
-            }
-            Verdict::Accepted
+    // One line of a chunk, or the part of one that stands at its end; the place behind it.
+    fn feed_line(&mut self, chunk: &[u8], at: usize) -> usize
+        requires { TakesLine self.old at chunk.now }
+        ensures { Onward self.new self.old at result chunk.now }
+    {
+        let reach = self.partial.scan(chunk, at);
+        if reach.ended {
+            self.on_reading(reach.partial.finish());
+        } else {
+            self.partial = reach.partial;
         }
-        Outcome::Broken(rule) => Verdict::Rejected(p.lines, rule),
-        Outcome::Beyond(which) => Verdict::Large(p.lines, which),
+        reach.at
     }
-}
 
-// The verdict, when all bytes were fed.
-pub fn finish(
-    p: Progress,
-    reservations: &mut [u64],
-    held: &mut [u64],
-    mapped: &mut [u64],
-    live: &mut [u64],
-) -> Verdict
-    requires { TakesMore 2 p (lent reservations.old held.old mapped.old live.old) }
-    ensures { result ≡ verdict_after p (found reservations held mapped live) [] }
-{
-    let q = last_line(p, reservations, held, mapped, live);
-    settle(q)
+    // A chunk of the bytes. Once a line is refused, or too much, what follows is not read.
+    pub fn feed(&mut self, chunk: &[u8])
+        requires { self.old.lines + length chunk.now < 2 ^ 64 }
+        ensures { Feeds self.new self.old chunk.now }
+    {
+        let mut at: usize = 0;
+        // kept: a turn goes to the end of a line, which the reader finds by place.
+        while at < chunk.len() {
+            if self.outcome.is_err() {
+                return;
+            }
+            at = self.feed_line(chunk, at);
+        }
+    }
+
+    // The end of the input: a last line without its line feed counts.
+    fn last_line(&mut self)
+        requires { self.old.lines + 1 < 2 ^ 64 }
+        ensures { Lasts self.new self.old }
+    {
+        if self.outcome.is_err() || self.partial.is_fresh() {
+            return;
+        }
+        self.on_reading(self.partial.finish());
+    }
+
+    // The verdict on the lines so far, where none follows.
+    fn settle(&self) -> Verdict
+        requires { self.now.lines + 1 < 2 ^ 64 }
+        ensures { result ≡ verdict_on self.now [] }
+    {
+        match self.outcome {
+            Ok(()) => {
+                if !self.state.run.opened || self.state.run.waiting {
+                    return Verdict::Rejected(self.lines + 1, Verdict::R0);
+                }
+                Verdict::Accepted
+            }
+            Err(Fault::Broken(rule)) => Verdict::Rejected(self.lines, rule),
+            Err(Fault::Beyond(which)) => Verdict::Large(self.lines, which),
+        }
+    }
+
+    // The verdict, when all bytes were fed.
+    pub fn finish(&mut self) -> Verdict
+        requires { self.old.lines + 2 < 2 ^ 64 }
+        ensures { result ≡ verdict_after self.old [] }
+    {
+        self.last_line();
+        self.settle()
+    }
 }

@@ -1,3 +1,4 @@
 pub mod Reasons
 pub mod Forms
 pub mod Texts
+pub mod Tests

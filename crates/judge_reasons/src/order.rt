@@ -1,5 +1,7 @@
 // What a line is rejected for that stands where it may not: R0.
-ghost use Rattle.judge_steps.specs.State.{Lent, judge_of};
+#![tactic(auto, unfolding(crate::specs::Reasons::IsTrue, judge_steps::specs::State::judge_of))]
+
+ghost use Rattle.judge_steps.specs.State.{judge_of};
 ghost use Rattle.judge_reasons.specs.Reasons.{IsTrue};
 
 use crate::Reason;
@@ -7,8 +9,8 @@ use judge_steps::State;
 use trace::Line;
 
 // Behind the open.
-fn of_run(s: State, l: Line) -> Reason
-    ensures { (t : Lent) → IsTrue (judge_of s t) l result }
+fn of_run(s: &State, l: Line) -> Reason
+    ensures { IsTrue (judge_of s.now) l result }
 {
     let kind = l.kind;
     let waiting = s.run.waiting;
@@ -41,8 +43,8 @@ fn of_run(s: State, l: Line) -> Reason
 }
 
 // R0, but for malformed lines
-pub fn of_order(s: State, l: Line) -> Reason
-    ensures { (t : Lent) → IsTrue (judge_of s t) l result }
+pub fn of_order(s: &State, l: Line) -> Reason
+    ensures { IsTrue (judge_of s.now) l result }
 {
     let opened = s.run.opened;
     if opened {

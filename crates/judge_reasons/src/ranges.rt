@@ -1,29 +1,20 @@
 // What an unmap, an access and the result of a malloc are rejected for: R4, R6, R7.
-ghost use Rattle.std.specs.Prelude.{List, ℕ};
-ghost use Rattle.judge_steps.specs.State.{lent, judge_of};
-ghost use Rattle.judge_steps.specs.Promises.{MappedFit, LiveFit};
+#![tactic(auto, using(crate::proofs::Told::told), unfolding(crate::specs::Reasons::IsTrue, judge_steps::specs::State::judge_of))]
+
+ghost use Rattle.judge_steps.specs.State.{judge_of};
 ghost use Rattle.judge_reasons.specs.Reasons.{IsTrue};
 
 use crate::Reason;
-use crate::searches::{FIRST, SECOND, find_clash, find_double, find_twin, first_unmapped, number};
+use crate::searches::{find_twins, first_unmapped, is_mapped_to, is_of_size};
 use judge_steps::State;
-use judge_tables::{has, has_both, in_one, is_clear, is_inside};
+use judge_tables::{is_clear, is_in_live, is_inside, is_mapped};
 use trace::Line;
 
 const LAST_ADDRESS: u64 = 0xffff_ffff_ffff_ffff;
 
-fn is_unexplained(r: Reason) -> bool {
-    if let Reason::Unexplained = r {
-        true
-    } else {
-        false
-    }
-}
-
 // A range of whole pages: the first page that is not mapped.
-fn of_pages(s: State, mapped: &[u64], l: Line) -> Reason
-    requires { MappedFit s mapped.now }
-    ensures { (rs hs ls : List ℕ) → IsTrue (judge_of s (lent rs hs mapped.now ls)) l result }
+fn of_pages(s: &State, l: Line) -> Reason
+    ensures { IsTrue (judge_of s.now) l result }
 {
     let page = s.run.page;
     let address = l.first;
@@ -31,14 +22,14 @@ fn of_pages(s: State, mapped: &[u64], l: Line) -> Reason
     if page == 0 {
         return Reason::Unexplained;
     }
-    let x = first_unmapped(mapped, s.mapped, address, page, bytes / page);
+    let x = first_unmapped(&s.mapped, address, page, bytes / page);
     if !is_inside(address, bytes, x) {
         return Reason::Unexplained;
     }
     if x % page != 0 {
         return Reason::Unexplained;
     }
-    if has(mapped, s.mapped, x) {
+    if is_mapped(&s.mapped, x) {
         if LAST_ADDRESS - address < bytes {
             return Reason::BeyondLastAddress(address, bytes);
         }
@@ -48,9 +39,8 @@ fn of_pages(s: State, mapped: &[u64], l: Line) -> Reason
 }
 
 // R6: a range that is not of mapped pages.
-pub fn of_range(s: State, mapped: &[u64], l: Line) -> Reason
-    requires { MappedFit s mapped.now }
-    ensures { (rs hs ls : List ℕ) → IsTrue (judge_of s (lent rs hs mapped.now ls)) l result }
+pub fn of_range(s: &State, l: Line) -> Reason
+    ensures { IsTrue (judge_of s.now) l result }
 {
     let page = s.run.page;
     let address = l.first;
@@ -67,59 +57,53 @@ pub fn of_range(s: State, mapped: &[u64], l: Line) -> Reason
     if address % page != 0 {
         return Reason::NotAligned(address, page);
     }
-    of_pages(s, mapped, l)
+    of_pages(s, l)
 }
 
 // A live buffer has an address in the range.
-fn of_live(s: State, live: &[u64], l: Line) -> Reason
-    requires { LiveFit s live.now }
-    ensures { (rs hs ms : List ℕ) → IsTrue (judge_of s (lent rs hs ms live.now)) l result }
+fn of_live(s: &State, l: Line) -> Reason
+    ensures { IsTrue (judge_of s.now) l result }
 {
-    let i = find_clash(live, s.live, l.first, l.second);
-    let start = number(live, s.live, i, FIRST);
-    let size = number(live, s.live, i, SECOND);
-    if has_both(live, s.live, start, size) {
-        if is_clear(l.first, l.second, start, size) {
-            return Reason::Unexplained;
+    let address = l.first;
+    let bytes = l.second;
+    let found = s
+        .live
+        .iter()
+        .copied()
+        .find(|b| !is_clear(address, bytes, b.start, b.size));
+    if let Some(b) = found {
+        if is_of_size(&s.live, b.start, b.size) {
+            if !is_clear(address, bytes, b.start, b.size) {
+                return Reason::OverLive(b.start, b.size);
+            }
         }
-        return Reason::OverLive(start, size);
     }
     Reason::Unexplained
 }
 
 // R4
-pub fn of_unmap(s: State, mapped: &[u64], live: &[u64], l: Line) -> Reason
-    requires { MappedFit s mapped.now × LiveFit s live.now }
-    ensures { (rs hs : List ℕ) → IsTrue (judge_of s (lent rs hs mapped.now live.now)) l result }
+pub fn of_unmap(s: &State, l: Line) -> Reason
+    ensures { IsTrue (judge_of s.now) l result }
 {
-    let r = of_range(s, mapped, l);
-    if is_unexplained(r) {
-        return of_live(s, live, l);
+    let r = of_range(s, l);
+    if let Reason::Unexplained = r {
+        return of_live(s, l);
     }
     r
 }
 
 // A page at `at` in the range, and another one of its handle at `other`, there or in a live buffer.
-fn of_twins(
-    s: State,
-    mapped: &[u64],
-    live: &[u64],
-    l: Line,
-    handle: u64,
-    at: u64,
-    other: u64,
-) -> Reason
-    requires { MappedFit s mapped.now × LiveFit s live.now }
-    ensures { (rs hs : List ℕ) → IsTrue (judge_of s (lent rs hs mapped.now live.now)) l result }
+fn of_twins(s: &State, l: Line, handle: u64, at: u64, other: u64) -> Reason
+    ensures { IsTrue (judge_of s.now) l result }
 {
     if at != other {
         if is_inside(l.first, l.second, at) {
-            if has_both(mapped, s.mapped, at, handle) {
-                if has_both(mapped, s.mapped, other, handle) {
+            if is_mapped_to(&s.mapped, at, handle) {
+                if is_mapped_to(&s.mapped, other, handle) {
                     if is_inside(l.first, l.second, other) {
                         return Reason::HandleTwice(handle, at, other);
                     }
-                    if in_one(live, s.live, other, 1) {
+                    if is_in_live(&s.live, other) {
                         return Reason::HandleOfLive(handle, at, other);
                     }
                 }
@@ -130,33 +114,27 @@ fn of_twins(
 }
 
 // A handle under two pages.
-fn of_handles(s: State, mapped: &[u64], live: &[u64], l: Line) -> Reason
-    requires { MappedFit s mapped.now × LiveFit s live.now }
-    ensures { (rs hs : List ℕ) → IsTrue (judge_of s (lent rs hs mapped.now live.now)) l result }
+fn of_handles(s: &State, l: Line) -> Reason
+    ensures { IsTrue (judge_of s.now) l result }
 {
-    let start = l.first;
-    let size = l.second;
-    let i = find_double(mapped, s.mapped, live, s.live, start, size);
-    let at = number(mapped, s.mapped, i, FIRST);
-    let handle = number(mapped, s.mapped, i, SECOND);
-    let j = find_twin(mapped, s.mapped, live, s.live, start, size, at, handle);
-    let other = number(mapped, s.mapped, j, FIRST);
-    of_twins(s, mapped, live, l, handle, at, other)
+    let Some((p, twin)) = find_twins(s, l.first, l.second) else {
+        return Reason::Unexplained;
+    };
+    of_twins(s, l, p.handle, p.at, twin.at)
 }
 
 // R7
-pub fn of_malloc(s: State, mapped: &[u64], live: &[u64], l: Line) -> Reason
-    requires { MappedFit s mapped.now × LiveFit s live.now }
-    ensures { (rs hs : List ℕ) → IsTrue (judge_of s (lent rs hs mapped.now live.now)) l result }
+pub fn of_malloc(s: &State, l: Line) -> Reason
+    ensures { IsTrue (judge_of s.now) l result }
 {
     let asked = s.run.asked.first;
     let given = l.second;
     if given != asked {
         return Reason::GivenOtherSize(given, asked);
     }
-    let r = of_unmap(s, mapped, live, l);
-    if is_unexplained(r) {
-        return of_handles(s, mapped, live, l);
+    let r = of_unmap(s, l);
+    if let Reason::Unexplained = r {
+        return of_handles(s, l);
     }
     r
 }

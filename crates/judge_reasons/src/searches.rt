@@ -1,165 +1,66 @@
-// Places in the judge's tables. Nothing is promised of what these searches find: whoever says it tests it first.
-ghost use Rattle.std.specs.Prelude.{◌≤◌, ◌<◌};
-ghost use Rattle.judge_tables.specs.Promises.{HasRows};
+// Rows of the judge's tables that are looked for, and tests of the tables. Nothing is promised of what a search finds: whoever says it tests it first.
+ghost use Rattle.std.specs.Prelude.{◌≡◌};
+ghost use Rattle.judge_reasons.specs.Tests.{maps_to, has_start, has_size};
 
-use judge_tables::{Row, has, in_one, is_clear, is_inside};
+use judge_steps::State;
+use judge_tables::{Live, Page, is_in_buffers, is_inside, is_mapped};
 
-// The columns of a row.
-pub const FIRST: usize = 0;
-
-pub const SECOND: usize = 1;
-
-pub const THIRD: usize = 2;
-
-// A number of the row at a place; 0 where no row is in use there.
-pub fn number(t: &[u64], count: usize, i: usize, column: usize) -> u64
-    requires { HasRows count t.now × (column < 3) }
+// The page at an address is mapped to this handle.
+pub fn is_mapped_to(mapped: &[Page], at: u64, handle: u64) -> bool
+    ensures { result ≡ maps_to mapped.now at handle }
 {
-    if i < count {
-        return t[Row::NUMBERS * i + column];
-    }
-    0
+    mapped
+        .iter()
+        .rev()
+        .any(|p| p.at == at && p.handle == handle)
 }
 
-// The place of a row with x in a column; count where there is none.
-pub fn find(t: &[u64], count: usize, column: usize, x: u64) -> usize
-    requires { HasRows count t.now × (column < 3) }
+// A live buffer starts here; and is of this size.
+pub fn is_start(live: &[Live], start: u64) -> bool
+    ensures { result ≡ has_start live.now start }
 {
-    let mut i = 0;
-    while i < count {
-        if number(t, count, i, column) == x {
-            return i;
-        }
-        i += 1;
-    }
-    count
+    live.iter().rev().any(|b| b.start == start)
 }
 
-// The place of a row whose range, its second number of addresses from its first on, has one of the n addresses from a on.
-pub fn find_clash(t: &[u64], count: usize, a: u64, n: u64) -> usize
-    requires { HasRows count t.now }
+pub fn is_of_size(live: &[Live], start: u64, size: u64) -> bool
+    ensures { result ≡ has_size live.now start size }
 {
-    let mut i = 0;
-    while i < count {
-        if !is_clear(
-            a,
-            n,
-            number(t, count, i, FIRST),
-            number(t, count, i, SECOND),
-        ) {
-            return i;
-        }
-        i += 1;
-    }
-    count
+    live.iter()
+        .rev()
+        .any(|b| b.start == start && b.size == size)
 }
 
-// The place of a row whose first number is one of the n from a on.
-pub fn find_inside(t: &[u64], count: usize, a: u64, n: u64) -> usize
-    requires { HasRows count t.now }
-{
-    let mut i = 0;
-    while i < count {
-        if is_inside(a, n, number(t, count, i, FIRST)) {
-            return i;
-        }
-        i += 1;
-    }
-    count
-}
-
-const LAST_ADDRESS: u64 = 0xffff_ffff_ffff_ffff;
-
-// The first of k pages from a on that begins no row; a where each begins one.
-pub fn first_unmapped(t: &[u64], count: usize, a: u64, page: u64, k: u64) -> u64
-    requires { HasRows count t.now }
-{
+// The first of k pages from a on that is not mapped; a where each is.
+pub fn first_unmapped(mapped: &[Page], a: u64, page: u64, k: u64) -> u64 {
     let mut x = a;
-    let mut left = k;
-    while 0 < left {
-        if !has(t, count, x) {
+    for _ in 0..k {
+        if !is_mapped(mapped, x) {
             return x;
         }
-        if LAST_ADDRESS - x < page {
+        let Some(next) = x.checked_add(page) else {
             return a;
-        }
-        x += page;
-        left -= 1;
+        };
+        x = next;
     }
     a
 }
 
-// The address is one of the n from a on, or of a live buffer.
-fn is_in_buffers(live: &[u64], lives: usize, a: u64, n: u64, x: u64) -> bool
-    requires { HasRows lives live.now }
-{
-    if is_inside(a, n, x) {
-        return true;
-    }
-    in_one(live, lives, x, 1)
+// Another page with the handle of p, among the n addresses from a on or in a live buffer.
+fn find_twin(s: &State, a: u64, n: u64, p: Page) -> Option<Page> {
+    s.mapped
+        .iter()
+        .copied()
+        .find(|q| q.handle == p.handle && q.at != p.at && is_in_buffers(&s.live, a, n, q.at))
 }
 
-// The page at place i has the handle, lies elsewhere than `at`, and in a buffer.
-fn is_twin(
-    t: &[u64],
-    count: usize,
-    live: &[u64],
-    lives: usize,
-    a: u64,
-    n: u64,
-    at: u64,
-    handle: u64,
-    i: usize,
-) -> bool
-    requires { HasRows count t.now × HasRows lives live.now }
-{
-    if number(t, count, i, SECOND) != handle {
-        return false;
-    }
-    let x = number(t, count, i, FIRST);
-    if x == at {
-        return false;
-    }
-    is_in_buffers(live, lives, a, n, x)
-}
-
-// The place of another page with the handle of the one at `at`, in a buffer.
-pub fn find_twin(
-    t: &[u64],
-    count: usize,
-    live: &[u64],
-    lives: usize,
-    a: u64,
-    n: u64,
-    at: u64,
-    handle: u64,
-) -> usize
-    requires { HasRows count t.now × HasRows lives live.now }
-{
-    let mut i = 0;
-    while i < count {
-        if is_twin(t, count, live, lives, a, n, at, handle, i) {
-            return i;
-        }
-        i += 1;
-    }
-    count
-}
-
-// The place of a page among the n addresses from a on that has such a twin.
-pub fn find_double(t: &[u64], count: usize, live: &[u64], lives: usize, a: u64, n: u64) -> usize
-    requires { HasRows count t.now × HasRows lives live.now }
-{
-    let mut i = 0;
-    while i < count {
-        let at = number(t, count, i, FIRST);
-        if is_inside(a, n, at) {
-            let handle = number(t, count, i, SECOND);
-            if find_twin(t, count, live, lives, a, n, at, handle) < count {
-                return i;
+// A page among the n addresses from a on that has such a twin, and the twin.
+pub fn find_twins(s: &State, a: u64, n: u64) -> Option<(Page, Page)> {
+    for p in s.mapped.iter() {
+        if is_inside(a, n, p.at) {
+            if let Some(twin) = find_twin(s, a, n, *p) {
+                return Some((*p, twin));
             }
         }
-        i += 1;
     }
-    count
+    None
 }

@@ -1,4 +1,3 @@
-pub mod TestsOfRows
-pub mod RulesByTests
-pub mod StepsByRule
-pub mod StepsByKind
+pub mod Tested
+pub mod Stepping
+pub mod LineKinds

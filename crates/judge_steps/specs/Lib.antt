@@ -1,2 +1,3 @@
 pub mod State
+pub mod Tests
 pub mod Promises

@@ -1,80 +1,42 @@
--- The judge's state as the code holds it: a few numbers, and four lent tables. Each table is its list, the newest first.
-use Rattle.std.specs.Prelude.{Bool, true, cond, not, ◌&&◌, ◌||◌, List, map, ℕ, eqb}
-use Rattle.std.proofs.Math.Option.{none, some}
+-- The judge's state as the code holds it, and the state of the rules that it stands for: each table is its list, the newest row first.
+use Rattle.std.specs.Prelude.{Bool, true, not, ◌&&◌, ◌||◌, ℕ, eqb, Option, Some, None, Result, Ok, Err}
+use Rattle.std.proofs.Math.Option as math
 use Rattle.trace.specs.declared.Line.{Line}
 use Rattle.judge_rules.specs.Said.{if_open}
-use Rattle.judge_rules.specs.Rules.{Judge, Reservation, Page, Live}
+use Rattle.judge_rules.specs.Rules.{Judge}
 use Rattle.judge_rules.specs.Verdict.{Step, on, broken, beyond}
 use Rattle.judge_rules.specs.declared.Call.{Call}
-use Rattle.judge_rules.specs.declared.Call.TheVariants.{Open, Malloc, Free, Close}
 use Rattle.judge_rules.specs.declared.Run.{Run}
-use Rattle.judge_tables.specs.Rows.{rows}
-use Rattle.judge_tables.specs.declared.Row.{Row}
+use Rattle.judge_tables.specs.Rows.{reservations_in, handles_in, pages_in, live_in}
 use Rattle.judge_steps.specs.declared.State.{State}
-use Rattle.judge_steps.specs.declared.Outcome.{Outcome}
-use Rattle.judge_steps.specs.declared.Outcome.TheVariants.{On, Broken, Beyond}
-use Rattle.judge_steps.specs.declared.Stepped.{Stepped}
+use Rattle.judge_steps.specs.declared.Fault.{Fault}
+use Rattle.judge_steps.specs.declared.Fault.TheVariants.{Broken, Beyond}
 
--- a row of each table
-abbrev pub reservation_of : Row → Reservation
-reservation_of w = record { base = w.first; size = w.second }
+abbrev pub last_of : Option ℕ → math.Option ℕ
+last_of None = math.none
+last_of (Some id) = math.some id
 
-abbrev pub handle_of : Row → ℕ
-handle_of w = w.first
-
-abbrev pub page_of : Row → Page
-page_of w = record { at = w.first; handle = w.second }
-
-abbrev pub buffer_of : Row → Live
-buffer_of w = record { start = w.first; size = w.second; stream = w.third }
-
-abbrev pub reservations_in : ℕ → List ℕ → List Reservation
-reservations_in n t = map reservation_of (rows n t)
-
-abbrev pub handles_in : ℕ → List ℕ → List ℕ
-handles_in n t = map handle_of (rows n t)
-
-abbrev pub pages_in : ℕ → List ℕ → List Page
-pages_in n t = map page_of (rows n t)
-
-abbrev pub live_in : ℕ → List ℕ → List Live
-live_in n t = map buffer_of (rows n t)
-
--- what the four lent slices hold
-pub record Lent : Type 0 where
-  pub reservations : List ℕ
-  pub held : List ℕ
-  pub mapped : List ℕ
-  pub live : List ℕ
-
-abbrev pub lent : List ℕ → List ℕ → List ℕ → List ℕ → Lent
-lent reservations held mapped live = record { reservations = reservations; held = held; mapped = mapped; live = live }
-
--- the state that the numbers and the four tables stand for
-unfoldable pub judge_of : State → Lent → Judge
-judge_of s t =
+unfoldable pub judge_of : State → Judge
+judge_of s =
     record {
       run = s.run;
-      reservations = reservations_in s.reservations t.reservations;
-      held = handles_in s.held t.held;
-      mapped = pages_in s.mapped t.mapped;
-      live = live_in s.live t.live;
-      last = cond s.recorded (some s.last) none;
+      reservations = reservations_in s.reservations.items;
+      held = handles_in s.held.items;
+      mapped = pages_in s.mapped.items;
+      live = live_in s.live.items;
+      last = last_of s.last;
     }
 
-abbrev pub outcome_of : Outcome → Judge → Step
-outcome_of On s = on s
-outcome_of (Broken rule) s = broken rule
-outcome_of (Beyond which) s = beyond which
+-- what a line came to, where `s` is the state after it
+abbrev pub outcome_of : Result (Unit {0}) Fault → Judge → Step
+outcome_of (Ok u) s = on s
+outcome_of (Err (Broken rule)) s = broken rule
+outcome_of (Err (Beyond which)) s = beyond which
 
-abbrev pub step_of : Stepped → Lent → Step
-step_of r t = outcome_of r.outcome (judge_of r.state t)
+abbrev pub step_of : Result (Unit {0}) Fault → State → Step
+step_of r s = outcome_of r (judge_of s)
 
--- the state with another run; a call line's; without live buffers where the call is close
-abbrev pub with_run : State → Run → State
-with_run s r =
-    record { run = r; reservations = s.reservations; held = s.held; mapped = s.mapped; live = s.live; recorded = s.recorded; last = s.last }
-
+-- a call line's run
 abbrev pub run_on : Call → Run → Line → Run
 run_on c r l =
     record {
@@ -85,9 +47,6 @@ run_on c r l =
       waiting = true;
       over = r.over;
     }
-
-abbrev pub run_at : Run → Bool → Bool → Run
-run_at r waiting over = record { opened = r.opened; page = r.page; va = r.va; asked = r.asked; waiting = waiting; over = over }
 
 -- R0 of a call line, of a record, of a result, of a small buffer's line
 abbrev pub starts_run : Call → Run → ℕ → Bool
@@ -101,10 +60,3 @@ ends_run r l = r.opened && (r.waiting && (not r.over || eqb l.first 0 && eqb l.s
 
 abbrev pub between_runs : Run → Bool
 between_runs r = r.opened && not r.waiting
-
-abbrev pub without_live : Call → State → State
-without_live Open s = s
-without_live Malloc s = s
-without_live Free s = s
-without_live Close s =
-    record { run = s.run; reservations = s.reservations; held = s.held; mapped = s.mapped; live = 0; recorded = s.recorded; last = s.last }

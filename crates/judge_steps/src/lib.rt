@@ -1,26 +1,28 @@
-// The judge's rules and steps in code. Its tables are lent: rows of three numbers in four slices, so that a line costs no copy of them; its state is the
-// few numbers beside them.
+// The judge's rules and steps in code.
 #![tactic(auto)]
+
+ghost use Rattle.std.specs.Prelude.{◌≡◌, true, ◌<◌};
 
 mod lines;
 mod records;
 mod rules;
 
+use arrayvec::ArrayVec;
 use judge_rules::Run;
-use judge_tables::Row;
-pub use lines::step;
+use judge_tables::{Live, Page, Reservation};
 
-// What the lines so far have said, but for the tables: how many rows each has in use.
-#[derive(Clone, Copy)]
+// What the lines so far have said: where the trace stands, the reservations, the handles that are held, the mapped pages, the live buffers and the last event id
+// that was recorded. A table has the oldest row first.
+#[derive(Drop)]
 pub struct State {
     pub run: Run,
-    pub reservations: usize,
-    pub held: usize,
-    pub mapped: usize,
-    pub live: usize,
-    // an event id was recorded, and the last one
-    pub recorded: bool,
-    pub last: u64,
+    pub reservations: ArrayVec<Reservation, { State::MOST_RESERVATIONS }>,
+    pub held: ArrayVec<u64, { State::MOST_HELD }>,
+    pub mapped: ArrayVec<Page, { State::MOST_MAPPED }>,
+    pub live: ArrayVec<Live, { State::MOST_LIVE }>,
+    pub last: Option<u64>,
+    // once opened, there is a page size
+    pub ghost paged: { run.opened ≡ true → 0 < run.page },
 }
 
 impl State {
@@ -32,27 +34,11 @@ impl State {
     pub const MOST_MAPPED: usize = 4096;
 
     pub const MOST_LIVE: usize = 128;
-
-    // How many numbers the slice has that is lent for it.
-    pub const RESERVATION_NUMBERS: usize = Row::NUMBERS * State::MOST_RESERVATIONS;
-
-    pub const HELD_NUMBERS: usize = Row::NUMBERS * State::MOST_HELD;
-
-    pub const MAPPED_NUMBERS: usize = Row::NUMBERS * State::MOST_MAPPED;
-
-    pub const LIVE_NUMBERS: usize = Row::NUMBERS * State::MOST_LIVE;
 }
 
-// What a line came to: on to the next one, the rule that it breaks, or what is too large after it.
-#[derive(Clone, Copy)]
-pub enum Outcome {
-    On,
+// Why a line is not taken: the rule that it breaks, or what is too large after it.
+#[derive(Clone, Copy, Drop)]
+pub enum Fault {
     Broken(u64),
     Beyond(u64),
-}
-
-#[derive(Clone, Copy)]
-pub struct Stepped {
-    pub state: State,
-    pub outcome: Outcome,
 }

@@ -1,126 +1,45 @@
 // A line: whether a call, a record or a result may stand there, and what it says.
 ghost use Rattle.std.specs.Prelude.{◌≡◌, ◌<◌};
 ghost use Rattle.judge_rules.specs.Said.{said, if_open};
-ghost use Rattle.judge_rules.specs.declared.Said.TheVariants.{Record, Call as Calls, Aside};
-ghost use Rattle.judge_steps.specs.declared.Outcome.TheVariants.{Broken};
-ghost use Rattle.judge_steps.specs.State.{Lent, lent, with_run, without_live, run_on, run_at, starts_run, in_run, ends_run, between_runs};
-ghost use Rattle.judge_steps.specs.Promises.{found, left, MappedFit, LiveFit, PagedOnceOpened, Ready, AnswersAsked, Steps, StepsResult};
+ghost use Rattle.judge_rules.specs.Verdict.{start, ended};
+ghost use Rattle.judge_rules.specs.declared.Said.TheVariants.{Record, Call as Calls, Result as Results, Aside};
+ghost use Rattle.judge_steps.specs.State.{judge_of, run_on, starts_run, in_run, ends_run, between_runs};
+ghost use Rattle.judge_steps.specs.Promises.{Answers, Steps};
 
-use crate::records::{on_free, on_malloc, on_record};
-use crate::{Outcome, State, Stepped};
+use crate::{Fault, State};
+use arrayvec::ArrayVec;
 use judge_rules::{Asked, Call, Run, Said, Verdict};
 use trace::Line;
 use words::Word;
-
-fn with_run(s: State, run: Run) -> State
-    ensures { result ≡ with_run s run }
-{
-    State {
-        run,
-        reservations: s.reservations,
-        held: s.held,
-        mapped: s.mapped,
-        live: s.live,
-        recorded: s.recorded,
-        last: s.last,
-    }
-}
-
-fn run_at(run: Run, waiting: bool, over: bool) -> Run
-    ensures { result ≡ run_at run waiting over }
-{
-    let asked = run.asked;
-    Run {
-        opened: run.opened,
-        page: run.page,
-        va: run.va,
-        asked,
-        waiting,
-        over,
-    }
-}
-
-fn call_of(run: Run) -> Call
-    ensures { result ≡ run.asked.call }
-{
-    let asked = run.asked;
-    asked.call
-}
-
-// A result of answer 0.
-fn on_answer(s: State, mapped: &[u64], live: &mut [u64], a: u64, b: u64) -> Stepped
-    requires { (0 < s.run.page) × (MappedFit s mapped.now × LiveFit s live.old) }
-    ensures { AnswersAsked s a b mapped.now live.old result live.new }
-{
-    let run = s.run;
-    let call = call_of(run);
-    match call {
-        Call::Open => Stepped {
-            state: s,
-            outcome: Outcome::On,
-        },
-        Call::Malloc => on_malloc(s, mapped, live, a, b),
-        Call::Free => on_free(s, live, a, b),
-        Call::Close => Stepped {
-            state: with_run(s, run_at(run, run.waiting, true)),
-            outcome: Outcome::On,
-        },
-    }
-}
-
-// docs/RULES.md 8.7: no buffer is live after a record of a close.
-fn end_live(s: State) -> State
-    ensures { result ≡ without_live s.run.asked.call s }
-{
-    let call = call_of(s.run);
-    match call {
-        Call::Open => s,
-        Call::Malloc => s,
-        Call::Free => s,
-        Call::Close => {
-            let mut out = s;
-            out.live = 0;
-            out
-        }
-    }
-}
 
 fn if_open(c: Call, one: u64, other: u64) -> u64
     ensures { result ≡ if_open c one other }
 {
     match c {
         Call::Open => one,
-        Call::Malloc => other,
-        Call::Free => other,
-        Call::Close => other,
+        Call::Malloc | Call::Free | Call::Close => other,
     }
 }
 
 // A call line begins a run.
-fn on_call(s: State, c: Call, l: Line) -> State
-    ensures { result ≡ with_run s (run_on c s.run l) }
+fn run_on(c: Call, run: Run, l: Line) -> Run
+    ensures { result ≡ run_on c run l }
 {
-    let old = s.run;
-    let asked = Asked {
-        call: c,
-        first: l.first,
-        second: l.second,
-    };
-    let page = if_open(c, l.first, old.page);
-    let va = if_open(c, l.second, old.va);
-    with_run(
-        s,
-        Run {
-            opened: true,
-            page,
-            va,
-            asked,
-            waiting: true,
-            over: old.over,
+    Run {
+        opened: true,
+        page: if_open(c, l.first, run.page),
+        va: if_open(c, l.second, run.va),
+        asked: Asked {
+            call: c,
+            first: l.first,
+            second: l.second,
         },
-    )
+        waiting: true,
+        over: run.over,
+    }
 }
 
+#[tactic(auto, unfolding(judge_rules::specs::Said::said))]
 fn said_of(kind: u64) -> Said
     ensures { result ≡ said kind }
 {
@@ -151,164 +70,142 @@ fn said_of(kind: u64) -> Said
 fn starts_run(c: Call, run: Run, first: u64) -> bool
     ensures { result ≡ starts_run c run first }
 {
-    if run.waiting {
-        return false;
-    }
     match c {
-        Call::Open => {
-            if run.opened {
-                return false;
-            }
-            first != 0
-        }
-        Call::Malloc => run.opened,
-        Call::Free => run.opened,
-        Call::Close => run.opened,
+        Call::Open => !run.opened && first != 0 && !run.waiting,
+        Call::Malloc | Call::Free | Call::Close => run.opened && !run.waiting,
     }
 }
 
 fn in_run(run: Run) -> bool
     ensures { result ≡ in_run run }
 {
-    if !run.opened {
-        return false;
-    }
-    if !run.waiting {
-        return false;
-    }
-    !run.over
+    run.opened && run.waiting && !run.over
 }
 
 fn ends_run(run: Run, l: Line) -> bool
     ensures { result ≡ ends_run run l }
 {
-    if !run.opened {
-        return false;
-    }
-    if !run.waiting {
-        return false;
-    }
-    if !run.over {
-        return true;
-    }
-    if l.first != 0 {
-        return false;
-    }
-    if l.second != 0 {
-        return false;
-    }
-    l.third == 1
+    run.opened && run.waiting && (!run.over || l.first == 0 && l.second == 0 && l.third == 1)
 }
 
 fn between_runs(run: Run) -> bool
     ensures { result ≡ between_runs run }
 {
-    if !run.opened {
-        return false;
-    }
-    !run.waiting
+    run.opened && !run.waiting
 }
 
-fn broken(s: State) -> Stepped
-    ensures { result ≡ record { state = s; outcome = Broken 0 } }
-{
-    Stepped {
-        state: s,
-        outcome: Outcome::Broken(Verdict::R0),
+impl State {
+    // Before the first line.
+    pub fn new() -> State
+        ensures { judge_of result ≡ start }
+    {
+        State {
+            run: Run {
+                opened: false,
+                page: 0,
+                va: 0,
+                asked: Asked {
+                    call: Call::Open,
+                    first: 0,
+                    second: 0,
+                },
+                waiting: false,
+                over: false,
+            },
+            reservations: ArrayVec::new(),
+            held: ArrayVec::new(),
+            mapped: ArrayVec::new(),
+            live: ArrayVec::new(),
+            last: None,
+        }
     }
-}
 
-// A call line.
-fn step_call(s: State, c: Call, l: Line) -> Stepped
-    ensures { (t : Lent) → Steps (Calls c) s l t result t }
-{
-    if !starts_run(c, s.run, l.first) {
-        return broken(s);
+    // A result of answer 0.
+    fn on_answer(&mut self, a: u64, b: u64) -> Result<(), Fault>
+        requires { 0 < self.old.run.page }
+        ensures { Answers self.old.run.asked.call self.old a b result self.new }
+    {
+        match self.run.asked.call {
+            Call::Open => Ok(()),
+            Call::Malloc => self.on_malloc(a, b),
+            Call::Free => self.on_free(a, b),
+            Call::Close => {
+                self.run.over = true;
+                Ok(())
+            }
+        }
     }
-    Stepped {
-        state: on_call(s, c, l),
-        outcome: Outcome::On,
-    }
-}
 
-// A record. A failed one has no rule but R0, and changes nothing else.
-fn step_record(
-    s: State,
-    reservations: &mut [u64],
-    held: &mut [u64],
-    mapped: &mut [u64],
-    live: &mut [u64],
-    word: Word,
-    l: Line,
-) -> Stepped
-    requires { Ready s (lent reservations.old held.old mapped.old live.old) }
-    ensures { Steps (Record word) s l
-        (found reservations held mapped live) result (left reservations held mapped live) }
-{
-    if !in_run(s.run) {
-        return broken(s);
+    // docs/RULES.md 8.7: no buffer is live after a record of a close.
+    fn end_live(&mut self)
+        ensures ended { judge_of self.new ≡ ended self.old.run.asked.call (judge_of self.old) }
+        ensures run { self.new.run ≡ self.old.run }
+    {
+        match self.run.asked.call {
+            Call::Open | Call::Malloc | Call::Free => {}
+            Call::Close => self.live.clear(),
+        }
     }
-    let t = end_live(s);
-    if l.third != 0 {
-        return Stepped {
-            state: t,
-            outcome: Outcome::On,
-        };
-    }
-    on_record(t, reservations, held, mapped, live, word, l.first, l.second)
-}
 
-// A result.
-fn step_result(s: State, mapped: &[u64], live: &mut [u64], l: Line) -> Stepped
-    requires { PagedOnceOpened s × (MappedFit s mapped.now × LiveFit s live.old) }
-    ensures { StepsResult s l mapped.now live.old result live.new }
-{
-    let run = s.run;
-    if !ends_run(run, l) {
-        return broken(s);
+    // A call line.
+    fn step_call(&mut self, c: Call, l: Line) -> Result<(), Fault>
+        ensures { Steps (Calls c) self.old l result self.new }
+    {
+        if !starts_run(c, self.run, l.first) {
+            return Err(Fault::Broken(Verdict::R0));
+        }
+        self.run = run_on(c, self.run, l);
+        Ok(())
     }
-    let t = with_run(s, run_at(run, false, run.over));
-    if l.third != 0 {
-        return Stepped {
-            state: t,
-            outcome: Outcome::On,
-        };
-    }
-    on_answer(t, mapped, live, l.first, l.second)
-}
 
-// A small buffer's line.
-fn step_aside(s: State, l: Line) -> Stepped
-    ensures { (t : Lent) → Steps Aside s l t result t }
-{
-    if !between_runs(s.run) {
-        return broken(s);
+    // A record. A failed one has no rule but R0, and changes nothing else.
+    fn step_record(&mut self, word: Word, l: Line) -> Result<(), Fault>
+        ensures { Steps (Record word) self.old l result self.new }
+    {
+        if !in_run(self.run) {
+            return Err(Fault::Broken(Verdict::R0));
+        }
+        self.end_live();
+        if l.third != 0 {
+            return Ok(());
+        }
+        self.on_record(word, l.first, l.second)
     }
-    Stepped {
-        state: s,
-        outcome: Outcome::On,
-    }
-}
 
-// One line.
-pub fn step(
-    s: State,
-    reservations: &mut [u64],
-    held: &mut [u64],
-    mapped: &mut [u64],
-    live: &mut [u64],
-    l: Line,
-) -> Stepped
-    requires { Ready s (lent reservations.old held.old mapped.old live.old) }
-    ensures { Steps (said l.kind) s l
-        (found reservations held mapped live) result (left reservations held mapped live) }
-{
-    let what = said_of(l.kind);
-    match what {
-        Said::Record(word) => step_record(s, reservations, held, mapped, live, word, l),
-        Said::Call(c) => step_call(s, c, l),
-        Said::Result => step_result(s, mapped, live, l),
-        Said::Aside => step_aside(s, l),
-        Said::Unknown => broken(s),
+    // A result.
+    fn step_result(&mut self, l: Line) -> Result<(), Fault>
+        ensures { Steps Results self.old l result self.new }
+    {
+        if !ends_run(self.run, l) {
+            return Err(Fault::Broken(Verdict::R0));
+        }
+        self.run.waiting = false;
+        if l.third != 0 {
+            return Ok(());
+        }
+        self.on_answer(l.first, l.second)
+    }
+
+    // A small buffer's line.
+    fn step_aside(&self, l: Line) -> Result<(), Fault>
+        ensures { Steps Aside self.now l result self.now }
+    {
+        if !between_runs(self.run) {
+            return Err(Fault::Broken(Verdict::R0));
+        }
+        Ok(())
+    }
+
+    // One line.
+    pub fn step(&mut self, l: Line) -> Result<(), Fault>
+        ensures { Steps (said l.kind) self.old l result self.new }
+    {
+        match said_of(l.kind) {
+            Said::Record(word) => self.step_record(word, l),
+            Said::Call(c) => self.step_call(c, l),
+            Said::Result => self.step_result(l),
+            Said::Aside => self.step_aside(l),
+            Said::Unknown => Err(Fault::Broken(Verdict::R0)),
+        }
     }
 }

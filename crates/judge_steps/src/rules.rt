@@ -1,145 +1,117 @@
-// The rules R1, R3, R4, R5, R7 and R10, over the tables as they stand. Each is equal to its definition.
+// The rules R1 to R10, over the tables as they stand. Each is equal to its definition.
 ghost use Rattle.std.specs.Prelude.{◌≡◌, ◌<◌};
-ghost use Rattle.judge_rules.specs.Rules.{whole_pages, credible, in_reservation};
-ghost use Rattle.judge_tables.specs.Promises.{HasRows};
-ghost use Rattle.judge_steps.specs.State.{reservations_in, pages_in};
-ghost use Rattle.judge_steps.specs.Promises.{ReservationsFit, HeldFit, MappedFit, LiveFit, TellsR1, TellsR3, TellsR4, TellsR5, TellsR7, TellsR10};
+ghost use Rattle.judge_steps.specs.Tests.{tests_whole, tests_credible, tests_R1, tests_R2, tests_R3, tests_R4, tests_R5, tests_R7, tests_R8, tests_R10, tests_rising, tests_known};
 
 use crate::State;
 use judge_tables::{
-    all_clear, all_mapped, has, has_both, has_second, in_one, no_handle_twice, none_inside,
+    all_mapped, has_reservation, is_held, is_live, is_mapped, is_reserved, is_under,
+    no_handle_twice, none_live, none_mapped, none_reserved,
 };
 
 // Where a reservation may end at the latest, 2^63.
 const END: u64 = 0x8000_0000_0000_0000;
 
-// A range of mapped pages (docs/RULES.md 8.4).
-pub fn is_whole(page: u64, mapped: &[u64], count: usize, address: u64, bytes: u64) -> bool
-    requires { (0 < page) × HasRows count mapped.now }
-    ensures { result ≡ whole_pages page (pages_in count mapped.now) address bytes }
-{
-    if bytes == 0 {
-        return false;
+impl State {
+    // A range of mapped pages (docs/RULES.md 8.4).
+    pub(crate) fn is_whole(&self, address: u64, bytes: u64) -> bool
+        requires { 0 < self.now.run.page }
+        ensures { result ≡ tests_whole self.now address bytes }
+    {
+        let page = self.run.page;
+        bytes != 0
+            && bytes % page == 0
+            && address % page == 0
+            && all_mapped(&self.mapped, address, page, bytes / page)
     }
-    if bytes % page != 0 {
-        return false;
-    }
-    if address % page != 0 {
-        return false;
-    }
-    all_mapped(mapped, count, address, page, bytes / page)
-}
 
-fn is_credible(page: u64, reservations: &[u64], count: usize, base: u64, size: u64) -> bool
-    requires { (0 < page) × HasRows count reservations.now }
-    ensures { result ≡ credible page (reservations_in count reservations.now) base size }
-{
-    if base == 0 {
-        return false;
+    fn is_credible(&self, base: u64, size: u64) -> bool
+        requires { 0 < self.now.run.page }
+        ensures { result ≡ tests_credible self.now base size }
+    {
+        base != 0
+            && base % self.run.page == 0
+            && size <= END
+            && base <= END - size
+            && none_reserved(&self.reservations, base, size)
     }
-    if base % page != 0 {
-        return false;
-    }
-    if END < size {
-        return false;
-    }
-    if END - size < base {
-        return false;
-    }
-    all_clear(reservations, count, base, size)
-}
 
-fn is_reserved(page: u64, reservations: &[u64], count: usize, address: u64) -> bool
-    requires { (0 < page) × HasRows count reservations.now }
-    ensures { result ≡ in_reservation page (reservations_in count reservations.now) address }
-{
-    if address % page != 0 {
-        return false;
+    pub(crate) fn keeps_r1(&self, base: u64, size: u64) -> bool
+        requires { 0 < self.now.run.page }
+        ensures { result ≡ tests_R1 self.now base size }
+    {
+        self.is_credible(base, size)
+            && size == self.run.va
+            && size != 0
+            && size % self.run.page == 0
     }
-    in_one(reservations, count, address, page)
-}
 
-pub fn r1(s: State, reservations: &[u64], base: u64, size: u64) -> bool
-    requires { (0 < s.run.page) × ReservationsFit s reservations.now }
-    ensures { TellsR1 s base size reservations.now result }
-{
-    let page = s.run.page;
-    if !is_credible(page, reservations, s.reservations, base, size) {
-        return false;
+    pub(crate) fn keeps_r2(&self, handle: u64) -> bool
+        ensures { result ≡ tests_R2 self.now handle }
+    {
+        !is_held(&self.held, handle)
     }
-    if size != s.run.va {
-        return false;
-    }
-    if size == 0 {
-        return false;
-    }
-    size % page == 0
-}
 
-pub fn r3(
-    s: State,
-    reservations: &[u64],
-    held: &[u64],
-    mapped: &[u64],
-    address: u64,
-    handle: u64,
-) -> bool
-    requires page_nonzero { 0 < s.run.page }
-    requires reservations_fit { ReservationsFit s reservations.now × (HeldFit s held.now × MappedFit s mapped.now) }
-    ensures { TellsR3 s address handle
-        reservations.now held.now mapped.now result }
-{
-    if !is_reserved(s.run.page, reservations, s.reservations, address) {
-        return false;
+    pub(crate) fn keeps_r3(&self, address: u64, handle: u64) -> bool
+        requires { 0 < self.now.run.page }
+        ensures { result ≡ tests_R3 self.now address handle }
+    {
+        address % self.run.page == 0
+            && is_reserved(&self.reservations, address, self.run.page)
+            && !is_mapped(&self.mapped, address)
+            && is_held(&self.held, handle)
     }
-    if has(mapped, s.mapped, address) {
-        return false;
-    }
-    has(held, s.held, handle)
-}
 
-pub fn r4(s: State, mapped: &[u64], live: &[u64], address: u64, bytes: u64) -> bool
-    requires { (0 < s.run.page) × (MappedFit s mapped.now × LiveFit s live.now) }
-    ensures { TellsR4 s address bytes mapped.now live.now result }
-{
-    if !is_whole(s.run.page, mapped, s.mapped, address, bytes) {
-        return false;
+    pub(crate) fn keeps_r4(&self, address: u64, bytes: u64) -> bool
+        requires { 0 < self.now.run.page }
+        ensures { result ≡ tests_R4 self.now address bytes }
+    {
+        self.is_whole(address, bytes) && none_live(&self.live, address, bytes)
     }
-    all_clear(live, s.live, address, bytes)
-}
 
-pub fn r5(s: State, held: &[u64], mapped: &[u64], handle: u64) -> bool
-    requires { HeldFit s held.now × MappedFit s mapped.now }
-    ensures { TellsR5 s handle held.now mapped.now result }
-{
-    if !has(held, s.held, handle) {
-        return false;
+    pub(crate) fn keeps_r5(&self, handle: u64) -> bool
+        ensures { result ≡ tests_R5 self.now handle }
+    {
+        is_held(&self.held, handle) && !is_under(&self.mapped, handle)
     }
-    !has_second(mapped, s.mapped, handle)
-}
 
-pub fn r7(s: State, mapped: &[u64], live: &[u64], start: u64, size: u64) -> bool
-    requires { (0 < s.run.page) × (MappedFit s mapped.now × LiveFit s live.now) }
-    ensures { TellsR7 s start size mapped.now live.now result }
-{
-    if size != s.run.asked.first {
-        return false;
+    pub(crate) fn keeps_r7(&self, start: u64, size: u64) -> bool
+        requires { 0 < self.now.run.page }
+        ensures { result ≡ tests_R7 self.now start size }
+    {
+        size == self.run.asked.first
+            && self.is_whole(start, size)
+            && none_live(&self.live, start, size)
+            && no_handle_twice(&self.mapped, &self.live, start, size)
     }
-    if !is_whole(s.run.page, mapped, s.mapped, start, size) {
-        return false;
-    }
-    if !all_clear(live, s.live, start, size) {
-        return false;
-    }
-    no_handle_twice(mapped, s.mapped, live, s.live, start, size)
-}
 
-pub fn r10(s: State, reservations: &[u64], mapped: &[u64], base: u64, size: u64) -> bool
-    requires { ReservationsFit s reservations.now × MappedFit s mapped.now }
-    ensures { TellsR10 s base size reservations.now mapped.now result }
-{
-    if !has_both(reservations, s.reservations, base, size) {
-        return false;
+    pub(crate) fn keeps_r8(&self, size: u64, stream: u64) -> bool
+        ensures { result ≡ tests_R8 self.now size stream }
+    {
+        is_live(&self.live, self.run.asked.first, size, stream)
     }
-    none_inside(mapped, s.mapped, base, size)
+
+    // R9, of an id that is recorded, and of one that is asked or waited for.
+    pub(crate) fn is_rising(&self, id: u64) -> bool
+        ensures { result ≡ tests_rising self.now.last id }
+    {
+        match self.last {
+            None => true,
+            Some(last) => last < id,
+        }
+    }
+
+    pub(crate) fn is_known(&self, id: u64) -> bool
+        ensures { result ≡ tests_known self.now.last id }
+    {
+        match self.last {
+            None => false,
+            Some(last) => id <= last,
+        }
+    }
+
+    pub(crate) fn keeps_r10(&self, base: u64, size: u64) -> bool
+        ensures { result ≡ tests_R10 self.now base size }
+    {
+        has_reservation(&self.reservations, base, size) && none_mapped(&self.mapped, base, size)
+    }
 }

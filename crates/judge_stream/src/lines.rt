@@ -1,21 +1,23 @@
 // The bytes of the line under way. They are kept for the words of the verdict alone: the judge reads each byte once and keeps none.
 ghost use Rattle.std.specs.Prelude.{◌≤◌, length};
 
-use judge_chunks::Progress;
-use judge_steps::Outcome;
+use arrayvec::ArrayVec;
+
+// A byte more than the longest line has, with its line feed: what such a line begins with is enough to tell what is wrong with it.
+pub const LINE_ROOM: usize = 74;
+
+pub type Head = ArrayVec<u8, LINE_ROOM>;
 
 // The place behind the last line feed of a chunk, or 0.
 fn behind_last(chunk: &[u8]) -> usize
     ensures { result ≤ length chunk.now }
 {
-    let mut i = chunk.len();
-    while 0 < i {
-        if chunk[i - 1] == b'\n' {
-            return i;
+    for (i, b) in chunk.iter().enumerate().rev() {
+        if *b == b'\n' {
+            return i + 1;
         }
-        i -= 1;
     }
-    i
+    0
 }
 
 // The place behind so many line feeds of a chunk, or its end.
@@ -23,66 +25,42 @@ fn behind(chunk: &[u8], feeds: u64) -> usize
     ensures { result ≤ length chunk.now }
 {
     let mut left = feeds;
-    let mut i: usize = 0;
-    while i < chunk.len() {
+    for (i, b) in chunk.iter().enumerate() {
         if left == 0 {
             return i;
         }
-        if chunk[i] == b'\n' {
+        if *b == b'\n' {
             left -= 1;
         }
-        i += 1;
     }
-    i
+    chunk.len()
 }
 
-// The line's bytes from a place of the chunk on, behind the `kept` bytes of it that stand in `head`, as far as there is room.
-fn keep(head: &mut [u8], kept: usize, chunk: &[u8], from: usize) -> usize
-    requires { kept ≤ length head.old }
-    ensures { result ≤ length head.new }
-{
-    let mut n = kept;
-    let mut i = from;
-    while i < chunk.len() {
-        if head.len() <= n {
-            return n;
+// A line's bytes behind those that are kept of it, as far as there is room.
+fn keep(head: &mut Head, bytes: &[u8]) {
+    for b in bytes {
+        if *b == b'\n' || head.is_full() {
+            return;
         }
-        let b = chunk[i];
-        if b == b'\n' {
-            return n;
-        }
-        head[n] = b;
-        n += 1;
-        i += 1;
+        head.push(*b);
     }
-    n
 }
 
-fn keep_line(head: &mut [u8], kept: usize, chunk: &[u8], from: usize) -> usize
-    requires { kept ≤ length head.old }
-    ensures { result ≤ length head.new }
+// The line that stands at a place of the chunk. At its start that is the one under way.
+fn keep_line(head: &mut Head, chunk: &[u8], from: usize)
+    requires { from ≤ length chunk.now }
 {
-    if from == 0 {
-        return keep(head, kept, chunk, from);
+    if from != 0 {
+        head.clear();
     }
-    keep(head, 0, chunk, from)
+    keep(head, &chunk[from..]);
 }
 
-// A chunk brought the judge from `p` to `q`. In `head` stands as much of the line under way then, or of the one that was refused, as there is room for.
-pub fn keep_under_way(head: &mut [u8], kept: usize, chunk: &[u8], p: Progress, q: Progress) -> usize
-    requires { kept ≤ length head.old }
-    ensures { result ≤ length head.new }
-{
-    let before = p.outcome;
-    let Outcome::On = before else {
-        return kept;
-    };
-    let after = q.outcome;
-    let Outcome::On = after else {
-        if q.lines <= p.lines {
-            return kept;
-        }
-        return keep_line(head, kept, chunk, behind(chunk, q.lines - p.lines - 1));
-    };
-    keep_line(head, kept, chunk, behind_last(chunk))
+// A chunk brought the judge on by so many lines, the last of them taken or refused. What is kept then is of the line under way, or of the one that was refused.
+pub fn keep_under_way(head: &mut Head, chunk: &[u8], lines: u64, well: bool) {
+    if well {
+        keep_line(head, chunk, behind_last(chunk));
+    } else if lines != 0 {
+        keep_line(head, chunk, behind(chunk, lines - 1));
+    }
 }

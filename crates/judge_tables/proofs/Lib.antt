@@ -1,3 +1,2 @@
-pub mod Rows
-pub mod Ranges
-pub mod Mapped
+pub mod Newest
+pub mod Pages

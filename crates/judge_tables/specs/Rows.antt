@@ -1,66 +1,81 @@
--- A table in a slice: rows of three numbers, the list of the first `n`, the newest first. So a definition that recurs on the list is a downward walk over
--- the rows.
-use Rattle.std.specs.Prelude.{Bool, ◌&&◌, ◌||◌, not, List, [], ◌∷◌, ℕ, zero, suc, ◌+◌, ◌*◌, leb, eqb, get_or, set}
-use Rattle.lists.specs.Tests.{any, every}
+-- The tables' rows as the rules have them, and a table as the rules have it: the newest row first. What the code's tests of a table are is said of its rows.
+use Rattle.std.specs.Prelude.{Bool, ◌&&◌, ◌||◌, not, List, map, reverse, ℕ, ◌+◌, ◌<◌, ◌^◌, leb, eqb, length, get_or}
+use Rattle.std.specs.List.{list_any, list_all}
 use Rattle.judge_rules.specs.Ranges.{inside, clear}
-use Rattle.judge_tables.specs.declared.Row.{Row}
+use Rattle.judge_rules.specs.Rules as rules
+use Rattle.judge_tables.specs.declared.rows.Reservation.{Reservation}
+use Rattle.judge_tables.specs.declared.rows.Page.{Page}
+use Rattle.judge_tables.specs.declared.rows.Live.{Live}
 
-abbrev pub per_row : ℕ
-per_row = 3
+abbrev pub reservation_of : Reservation → rules.Reservation
+reservation_of r = record { base = r.base; size = r.size }
 
-abbrev pub row_at : List ℕ → ℕ → Row
-row_at t i = record { first = get_or t (per_row * i) 0; second = get_or t (per_row * i + 1) 0; third = get_or t (per_row * i + 2) 0 }
+abbrev pub page_of : Page → rules.Page
+page_of p = record { at = p.at; handle = p.handle }
 
-abbrev pub rows : ℕ → List ℕ → List Row
-rows zero t = []
-rows (suc n) t = row_at t n ∷ rows n t
+abbrev pub buffer_of : Live → rules.Live
+buffer_of b = record { start = b.start; size = b.size; stream = b.stream }
 
--- the row `w` at place `i`
-unfoldable pub put_row : List ℕ → ℕ → Row → List ℕ
-put_row t i w = set (set (set t (per_row * i) w.first) (per_row * i + 1) w.second) (per_row * i + 2) w.third
+abbrev pub reservations_in : List Reservation → List rules.Reservation
+reservations_in t = map reservation_of (reverse t)
 
--- Tests of a row: its first number, its second, both, all three,
-abbrev pub first_is : ℕ → Row → Bool
-first_is x w = eqb w.first x
+abbrev pub handles_in : List ℕ → List ℕ
+handles_in t = reverse t
 
-abbrev pub second_is : ℕ → Row → Bool
-second_is x w = eqb w.second x
+abbrev pub pages_in : List Page → List rules.Page
+pages_in t = map page_of (reverse t)
 
-abbrev pub pair_is : ℕ → ℕ → Row → Bool
-pair_is x y w = eqb w.first x && eqb w.second y
+abbrev pub live_in : List Live → List rules.Live
+live_in t = map buffer_of (reverse t)
 
-abbrev pub all_are : ℕ → ℕ → ℕ → Row → Bool
-all_are x y z w = eqb w.first x && eqb w.second y && eqb w.third z
+-- Tests of the rows. None of the `n` addresses from `a` on is in a reservation, all are in one, and one has this base and size;
+abbrev pub holds_no_overlap : List Reservation → ℕ → ℕ → Bool
+holds_no_overlap t a n = list_all (λ r. clear a n r.base r.size) (reverse t)
 
--- a row of the table begins with the number
-abbrev pub begins : List Row → ℕ → Bool
-begins table x = any (first_is x) table
+abbrev pub holds_range : List Reservation → ℕ → ℕ → Bool
+holds_range t a n = list_any (λ r. leb r.base a && leb (a + n) (r.base + r.size)) (reverse t)
 
--- as a range, the second number of addresses from the first on: it holds the `n` from `a` on, or none of them;
-abbrev pub around : ℕ → ℕ → Row → Bool
-around a n w = leb w.first a && leb (a + n) (w.first + w.second)
+abbrev pub holds_reservation : List Reservation → ℕ → ℕ → Bool
+holds_reservation t base size = list_any (λ r. eqb r.base base && eqb r.size size) (reverse t)
 
-abbrev pub clear_of : ℕ → ℕ → Row → Bool
-clear_of a n w = clear a n w.first w.second
+-- a handle is held, a page is mapped at `x`, one is mapped to `handle`, none is mapped among the addresses,
+abbrev pub holds_handle : List ℕ → ℕ → Bool
+holds_handle t handle = list_any (λ h. eqb h handle) (reverse t)
 
--- the first number is none of the `n` from `a` on
-abbrev pub stays : ℕ → ℕ → Row → Bool
-stays a n w = not (inside a n w.first)
+abbrev pub holds_page : List Page → ℕ → Bool
+holds_page t x = list_any (λ p. eqb p.at x) (reverse t)
 
--- the address is one of the `n` from `a` on, or of a row's of `live`
-abbrev pub in_buffers : List Row → ℕ → ℕ → ℕ → Bool
-in_buffers live a n x = inside a n x || any (around x 1) live
+abbrev pub holds_under : List Page → ℕ → Bool
+holds_under t handle = list_any (λ p. eqb p.handle handle) (reverse t)
 
--- the row is at `at`, has another handle, or is not there
-abbrev pub no_clash : List Row → ℕ → ℕ → ℕ → ℕ → Row → Bool
-no_clash live a n at handle w = eqb w.first at || not (eqb w.second handle) || not (in_buffers live a n w.first)
+abbrev pub holds_no_page : List Page → ℕ → ℕ → Bool
+holds_no_page t a n = list_all (λ p. not (inside a n p.at)) (reverse t)
 
-abbrev pub none_clash : List Row → List Row → ℕ → ℕ → ℕ → ℕ → Bool
-none_clash mapped live a n at handle = every (no_clash live a n at handle) mapped
+-- there is a live buffer of this start, size and stream,
+abbrev pub holds_buffer : List Live → ℕ → ℕ → ℕ → Bool
+holds_buffer t start size stream = list_any (λ b. eqb b.start start && eqb b.size size && eqb b.stream stream) (reverse t)
 
--- the row is not there, or no other row there has its handle
-abbrev pub alone : List Row → List Row → ℕ → ℕ → Row → Bool
-alone mapped live a n p = not (inside a n p.first) || none_clash mapped live a n p.first p.second
+-- none has one of the `n` addresses from `a` on, one has the address `x`, and this is one of these or a live buffer's;
+abbrev pub holds_none : List Live → ℕ → ℕ → Bool
+holds_none t a n = list_all (λ b. clear a n b.start b.size) (reverse t)
 
-abbrev pub no_handle_twice : List Row → List Row → ℕ → ℕ → Bool
-no_handle_twice mapped live a n = every (alone mapped live a n) mapped
+abbrev pub holds_address : List Live → ℕ → Bool
+holds_address t x = list_any (λ b. inside b.start b.size x) (reverse t)
+
+abbrev pub in_buffers : List Live → ℕ → ℕ → ℕ → Bool
+in_buffers t a n x = inside a n x || holds_address t x
+
+-- no other page in these buffers has the handle of `p`, and no page among the addresses has one that another there has.
+abbrev pub holds_alone : List Page → List Live → ℕ → ℕ → Page → Bool
+holds_alone t live a n p =
+    list_all (λ q. not (eqb q.handle p.handle) || eqb q.at p.at || not (in_buffers live a n q.at)) (reverse t)
+
+abbrev pub holds_no_twins : List Page → List Live → ℕ → ℕ → Bool
+holds_no_twins t live a n = list_all (λ p. not (inside a n p.at) || holds_alone t live a n p) (reverse t)
+
+-- every page starts at an address
+abbrev pub no_page : Page
+no_page = record { at = 0; handle = 0 }
+
+abbrev pub Addressed : List Page → Type 0
+Addressed t = (k : ℕ) → k < length t → (get_or t k no_page).at < 2 ^ 64

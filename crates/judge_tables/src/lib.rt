@@ -1,23 +1,16 @@
-// The judge's tables: rows of three numbers in a lent slice, the first `count` in use. A question to a table is a walk down its rows, with a function for each
-// test. One filter and one store change all of them.
+// The judge's tables: their rows, the oldest first, and the questions to them. Each question looks at the newest rows first, as its definition does, and is
+// equal to it.
 #![tactic(auto)]
 
-ghost use Rattle.std.specs.Prelude.{◌≡◌, ◌&&◌, ◌+◌, ◌≤◌, leb};
-ghost use Rattle.lists.specs.Tests.{any, every};
+ghost use Rattle.std.specs.Prelude.{◌≡◌, ◌&&◌, ◌+◌, leb};
+ghost use Rattle.lists.specs.Tests.{every};
 ghost use Rattle.judge_rules.specs.Ranges.{inside, clear, pages_from};
-ghost use Rattle.judge_tables.specs.Rows.{row_at, rows, put_row, begins, second_is, pair_is, all_are, around, clear_of, stays, no_clash, none_clash, alone, no_handle_twice};
-ghost use Rattle.judge_tables.specs.Promises.{HasRows, Keeps, Leaves};
+ghost use Rattle.judge_rules.specs.Rules.{is_mapped};
+ghost use Rattle.judge_tables.specs.Rows.{pages_in, Addressed, holds_no_overlap, holds_range, holds_reservation, holds_no_page, holds_buffer, holds_handle, holds_page, holds_under, holds_none, holds_address, in_buffers, holds_alone, holds_no_twins};
 
-#[derive(Clone, Copy)]
-pub struct Row {
-    pub first: u64,
-    pub second: u64,
-    pub third: u64,
-}
+mod rows;
 
-impl Row {
-    pub const NUMBERS: usize = 3;
-}
+pub use rows::{Live, Page, Reservation};
 
 const LAST_ADDRESS: u64 = 0xffff_ffff_ffff_ffff;
 
@@ -25,314 +18,157 @@ const LAST_ADDRESS: u64 = 0xffff_ffff_ffff_ffff;
 pub fn is_inside(a: u64, n: u64, x: u64) -> bool
     ensures { result ≡ inside a n x }
 {
-    if x < a {
-        return false;
-    }
-    x - a < n
+    a <= x && x - a < n
 }
 
 // The n addresses from a on and the m from b on have none in common.
 pub fn is_clear(a: u64, n: u64, b: u64, m: u64) -> bool
     ensures { result ≡ clear a n b m }
 {
-    if b < a {
-        return m <= a - b;
-    }
-    if n <= b - a {
-        return true;
-    }
-    if a < b {
-        return false;
-    }
-    m == 0
+    a <= b && n <= b - a || b <= a && m <= a - b
 }
 
 // The n addresses from a on are all among the m from b on.
 pub fn is_within(a: u64, n: u64, b: u64, m: u64) -> bool
     ensures { result ≡ (leb b a && leb (a + n) (b + m)) }
 {
-    if a < b {
-        return false;
-    }
-    let d = a - b;
-    if m < d {
-        return false;
-    }
-    n <= m - d
+    b <= a && a - b <= m && n <= m - (a - b)
 }
 
-fn read(t: &[u64], i: usize) -> Row
-    requires { HasRows (i + 1) t.now }
-    ensures { result ≡ row_at t.now i }
+// None of the n addresses from a on is in a reservation.
+pub fn none_reserved(reservations: &[Reservation], a: u64, n: u64) -> bool
+    ensures { result ≡ holds_no_overlap reservations.now a n }
 {
-    Row {
-        first: t[Row::NUMBERS * i],
-        second: t[Row::NUMBERS * i + 1],
-        third: t[Row::NUMBERS * i + 2],
+    reservations
+        .iter()
+        .rev()
+        .all(|r| is_clear(a, n, r.base, r.size))
+}
+
+// The n addresses from a on are all in one reservation.
+pub fn is_reserved(reservations: &[Reservation], a: u64, n: u64) -> bool
+    ensures { result ≡ holds_range reservations.now a n }
+{
+    reservations
+        .iter()
+        .rev()
+        .any(|r| is_within(a, n, r.base, r.size))
+}
+
+// There is a reservation of this base and size.
+pub fn has_reservation(reservations: &[Reservation], base: u64, size: u64) -> bool
+    ensures { result ≡ holds_reservation reservations.now base size }
+{
+    reservations
+        .iter()
+        .rev()
+        .any(|r| r.base == base && r.size == size)
+}
+
+// One of the handles is this.
+pub fn is_held(held: &[u64], handle: u64) -> bool
+    ensures { result ≡ holds_handle held.now handle }
+{
+    held.iter().rev().any(|h| *h == handle)
+}
+
+// A page is mapped at x.
+pub fn is_mapped(mapped: &[Page], x: u64) -> bool
+    ensures { result ≡ holds_page mapped.now x }
+{
+    mapped.iter().rev().any(|p| p.at == x)
+}
+
+// A page is mapped to this handle.
+pub fn is_under(mapped: &[Page], handle: u64) -> bool
+    ensures { result ≡ holds_under mapped.now handle }
+{
+    mapped.iter().rev().any(|p| p.handle == handle)
+}
+
+// No page that starts at one of the n addresses from a on is mapped.
+pub fn none_mapped(mapped: &[Page], a: u64, n: u64) -> bool
+    ensures { result ≡ holds_no_page mapped.now a n }
+{
+    mapped.iter().rev().all(|p| !is_inside(a, n, p.at))
+}
+
+// Each page starts at an address: there is nothing to do, and the proof of all_mapped reads it here.
+fn see_addresses(mapped: &[Page])
+    ensures { Addressed mapped.now }
+{
+    for p in mapped {
+        let at = p.at;
+        prove!(at <= LAST_ADDRESS);
     }
 }
 
-// The row begins with these two numbers.
-fn is_both(w: Row, x: u64, y: u64) -> bool
-    ensures { result ≡ pair_is x y w }
-{
-    if w.first == x {
-        return w.second == y;
-    }
-    false
-}
-
-// The row has these three numbers.
-fn is_all(w: Row, x: u64, y: u64, z: u64) -> bool
-    ensures { result ≡ all_are x y z w }
-{
-    if w.first == x {
-        if w.second == y {
-            return w.third == z;
-        }
-    }
-    false
-}
-
-// A row has x as its first number.
-pub fn has(t: &[u64], count: usize, x: u64) -> bool
-    requires { HasRows count t.now }
-    ensures { result ≡ begins (rows count t.now) x }
-{
-    let mut i = count;
-    while 0 < i {
-        i -= 1;
-        let w = read(t, i);
-        if w.first == x {
-            return true;
-        }
-    }
-    false
-}
-
-// A row has x as its second number.
-pub fn has_second(t: &[u64], count: usize, x: u64) -> bool
-    requires { HasRows count t.now }
-    ensures { result ≡ any (second_is x) (rows count t.now) }
-{
-    let mut i = count;
-    while 0 < i {
-        i -= 1;
-        let w = read(t, i);
-        if w.second == x {
-            return true;
-        }
-    }
-    false
-}
-
-// A row begins with these two numbers.
-pub fn has_both(t: &[u64], count: usize, x: u64, y: u64) -> bool
-    requires { HasRows count t.now }
-    ensures { result ≡ any (pair_is x y) (rows count t.now) }
-{
-    let mut i = count;
-    while 0 < i {
-        i -= 1;
-        let w = read(t, i);
-        if is_both(w, x, y) {
-            return true;
-        }
-    }
-    false
-}
-
-// A row has these three numbers.
-pub fn has_all(t: &[u64], count: usize, x: u64, y: u64, z: u64) -> bool
-    requires { HasRows count t.now }
-    ensures { result ≡ any (all_are x y z) (rows count t.now) }
-{
-    let mut i = count;
-    while 0 < i {
-        i -= 1;
-        let w = read(t, i);
-        if is_all(w, x, y, z) {
-            return true;
-        }
-    }
-    false
-}
-
-// The n addresses from a on are among those of one row: its second number of them from its first on.
-pub fn in_one(t: &[u64], count: usize, a: u64, n: u64) -> bool
-    requires { HasRows count t.now }
-    ensures { result ≡ any (around a n) (rows count t.now) }
-{
-    let mut i = count;
-    while 0 < i {
-        i -= 1;
-        let w = read(t, i);
-        if is_within(a, n, w.first, w.second) {
-            return true;
-        }
-    }
-    false
-}
-
-// None of the n addresses from a on is one of a row's.
-pub fn all_clear(t: &[u64], count: usize, a: u64, n: u64) -> bool
-    requires { HasRows count t.now }
-    ensures { result ≡ every (clear_of a n) (rows count t.now) }
-{
-    let mut i = count;
-    while 0 < i {
-        i -= 1;
-        let w = read(t, i);
-        if !is_clear(a, n, w.first, w.second) {
-            return false;
-        }
-    }
-    true
-}
-
-// The row's first number is none of the n from a on.
-fn is_outside(w: Row, a: u64, n: u64) -> bool
-    ensures { result ≡ stays a n w }
-{
-    !is_inside(a, n, w.first)
-}
-
-// No row's first number is one of the n from a on.
-pub fn none_inside(t: &[u64], count: usize, a: u64, n: u64) -> bool
-    requires { HasRows count t.now }
-    ensures { result ≡ every (stays a n) (rows count t.now) }
-{
-    let mut i = count;
-    while 0 < i {
-        i -= 1;
-        let w = read(t, i);
-        if !is_outside(w, a, n) {
-            return false;
-        }
-    }
-    true
-}
-
-// Each of k pages from a on begins a row. A page that would begin beyond the last address begins none.
-pub fn all_mapped(t: &[u64], count: usize, a: u64, page: u64, k: u64) -> bool
-    requires { HasRows count t.now }
-    ensures { result ≡ every (begins (rows count t.now)) (pages_from page a k) }
+// Each of k pages from a on is mapped. None is that would begin beyond the last address.
+pub fn all_mapped(mapped: &[Page], a: u64, page: u64, k: u64) -> bool
+    ensures { result ≡ every (is_mapped (pages_in mapped.now)) (pages_from page a k) }
 {
     let mut x = a;
-    let mut i = k;
-    while 0 < i {
-        if !has(t, count, x) {
+    for i in 0..k {
+        if !is_mapped(mapped, x) {
             return false;
         }
-        i -= 1;
         if LAST_ADDRESS - x < page {
-            return i == 0;
+            see_addresses(mapped);
+            return i + 1 == k;
         }
         x += page;
     }
     true
 }
 
-// The row is that of the page at `at`, has another handle, or lies in no buffer.
-fn no_clash(w: Row, live: &[u64], lives: usize, a: u64, n: u64, at: u64, handle: u64) -> bool
-    requires { HasRows lives live.now }
-    ensures { result ≡ no_clash (rows lives live.now) a n at handle w }
+// There is a live buffer of this start, size and stream.
+pub fn is_live(live: &[Live], start: u64, size: u64, stream: u64) -> bool
+    ensures { result ≡ holds_buffer live.now start size stream }
 {
-    if w.second != handle {
-        return true;
-    }
-    if w.first == at {
-        return true;
-    }
-    if is_inside(a, n, w.first) {
-        return false;
-    }
-    !in_one(live, lives, w.first, 1)
+    live.iter()
+        .rev()
+        .any(|b| b.start == start && b.size == size && b.stream == stream)
 }
 
-fn none_clash(
-    t: &[u64],
-    count: usize,
-    live: &[u64],
-    lives: usize,
-    a: u64,
-    n: u64,
-    at: u64,
-    handle: u64,
-) -> bool
-    requires { HasRows count t.now × HasRows lives live.now }
-    ensures { result ≡ none_clash (rows count t.now) (rows lives live.now) a n at handle }
+// No live buffer has one of the n addresses from a on.
+pub fn none_live(live: &[Live], a: u64, n: u64) -> bool
+    ensures { result ≡ holds_none live.now a n }
 {
-    let mut i = count;
-    while 0 < i {
-        i -= 1;
-        let w = read(t, i);
-        if !no_clash(w, live, lives, a, n, at, handle) {
-            return false;
-        }
-    }
-    true
+    live.iter()
+        .rev()
+        .all(|b| is_clear(a, n, b.start, b.size))
 }
 
-fn is_alone(p: Row, t: &[u64], count: usize, live: &[u64], lives: usize, a: u64, n: u64) -> bool
-    requires { HasRows count t.now × HasRows lives live.now }
-    ensures { result ≡ alone (rows count t.now) (rows lives live.now) a n p }
+// The address x is a live buffer's.
+pub fn is_in_live(live: &[Live], x: u64) -> bool
+    ensures { result ≡ holds_address live.now x }
 {
-    if !is_inside(a, n, p.first) {
-        return true;
-    }
-    none_clash(t, count, live, lives, a, n, p.first, p.second)
+    live.iter().rev().any(|b| is_inside(b.start, b.size, x))
 }
 
-// No mapped page among the n addresses from a on has the handle of another there or in a live buffer.
-pub fn no_handle_twice(t: &[u64], count: usize, live: &[u64], lives: usize, a: u64, n: u64) -> bool
-    requires { HasRows count t.now × HasRows lives live.now }
-    ensures { result ≡ no_handle_twice (rows count t.now) (rows lives live.now) a n }
+// The address x is one of the n from a on, or a live buffer's.
+pub fn is_in_buffers(live: &[Live], a: u64, n: u64, x: u64) -> bool
+    ensures { result ≡ in_buffers live.now a n x }
 {
-    let mut i = count;
-    while 0 < i {
-        i -= 1;
-        let w = read(t, i);
-        if !is_alone(w, t, count, live, lives, a, n) {
-            return false;
-        }
-    }
-    true
+    is_inside(a, n, x) || is_in_live(live, x)
 }
 
-pub fn put(t: &mut [u64], i: usize, w: Row)
-    requires { HasRows (i + 1) t.old }
-    ensures { t.new ≡ put_row t.old i w }
+// No other page in these buffers has the handle of p. The handles differ mostly, so they are looked at first.
+fn is_alone(mapped: &[Page], live: &[Live], a: u64, n: u64, p: Page) -> bool
+    ensures { result ≡ holds_alone mapped.now live.now a n p }
 {
-    let k = Row::NUMBERS * i;
-    t[k] = w.first;
-    t[k + 1] = w.second;
-    t[k + 2] = w.third;
+    mapped
+        .iter()
+        .rev()
+        .all(|q| q.handle != p.handle || q.at == p.at || !is_in_buffers(live, a, n, q.at))
 }
 
-// The row at place i goes to place j, where its first number is none of the n from a on; the next free place.
-fn keep(t: &mut [u64], i: usize, j: usize, a: u64, n: u64) -> usize
-    requires { (j ≤ i) × HasRows (i + 1) t.old }
-    ensures { Keeps t.old i j a n result t.new }
+// No page among the n addresses from a on has the handle of another there or in a live buffer.
+pub fn no_handle_twice(mapped: &[Page], live: &[Live], a: u64, n: u64) -> bool
+    ensures { result ≡ holds_no_twins mapped.now live.now a n }
 {
-    let w = read(t, i);
-    if is_outside(w, a, n) {
-        put(t, j, w);
-        return j + 1;
-    }
-    j
-}
-
-// The rows whose first number is none of the n from a on, in their order; how many they are.
-pub fn without(t: &mut [u64], count: usize, a: u64, n: u64) -> usize
-    requires { HasRows count t.old }
-    ensures { Leaves t.old count a n result t.new }
-{
-    let mut j: usize = 0;
-    let mut i: usize = 0;
-    while i < count {
-        j = keep(t, i, j, a, n);
-        i += 1;
-    }
-    j
+    mapped
+        .iter()
+        .rev()
+        .all(|p| !is_inside(a, n, p.at) || is_alone(mapped, live, a, n, *p))
 }

@@ -4,4 +4,4 @@ use Rattle.judge_whole.proofs.judge.Goals as goal
 
 pub returns : goal.returns
 returns c =
-    one_chunk c.start-p.ensures c.feed-q.ensures c.finish.ensures
+    one_chunk c.new-progress.ensures c.feed.ensures c.finish.ensures

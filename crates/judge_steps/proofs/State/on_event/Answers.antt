@@ -1,0 +1,22 @@
+-- `judge_steps::State::on_event` meets its contract: refused by its rule, or the last id.
+use mathlib.Core.Path.{sym, ◌∙◌}
+use Rattle.judge_rules.specs.Rules.{R9_recorded}
+use Rattle.judge_rules.specs.Verdict.{recorded}
+use Rattle.judge_steps.specs.State.{judge_of}
+use Rattle.judge_steps.proofs.Tested.{rising-is}
+use Rattle.judge_steps.proofs.Stepping.{refused, passed}
+use Rattle.judge_steps.proofs.State.on_event.Goals as goal
+
+pub returns-then-not-is_rising : goal.returns-then-not-is_rising
+unfolding recorded judge_of
+returns-then-not-is_rising c =
+    let v = c.args in
+    let s = v.self.now in
+    refused 9 (R9_recorded (judge_of s) v.id) _ (sym (rising-is s v.id) ∙ sym c.is_rising.ensures ∙ c.if-not-is_rising.true)
+
+pub returns : goal.returns
+unfolding recorded judge_of
+returns c =
+    let v = c.args in
+    let s = v.self.now in
+    passed 9 (R9_recorded (judge_of s) v.id) _ (sym (rising-is s v.id) ∙ sym c.is_rising.ensures ∙ c.if-not-is_rising.false)
