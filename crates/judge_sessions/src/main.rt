@@ -4,24 +4,24 @@
 #![tactic(auto)]
 
 use judge_stream::{WordsTo, pump};
-use named_files::{NAME_ROOM, is_word, open_named};
+use named_files::{Failure, Word, Words, open_named};
 use std::io::Write;
-use std::rt::{Env, Files};
+use std::rt::Files;
 
-fn one<R: Env + Files>(rt: &R, to: &mut impl Write, err: &mut impl Write, i: usize) {
-    let mut path = [0u8; NAME_ROOM];
-    let named = open_named(rt, err, i, &mut path, b"path");
-    let Some(mut file) = named.file else {
+fn one<R: Files>(
+    rt: &R,
+    to: &mut impl Write,
+    err: &mut impl Write,
+    word: Result<Word, Failure>,
+) {
+    let Some(mut named) = open_named(rt, err, word, "path") else {
         return;
     };
-    pump(&mut file, to, err, b"", WordsTo::Output);
+    pump(&mut named.file, to, err, b"", WordsTo::Output);
 }
 
 fn main(rt: HostRuntime) {
-    for i in 1..usize::MAX {
-        if !is_word(&rt, i) {
-            break;
-        }
-        one(&rt, &mut rt.stdout(), &mut rt.stderr(), i);
+    for word in Words::of(&rt) {
+        one(&rt, &mut rt.stdout(), &mut rt.stderr(), word);
     }
 }

@@ -1,70 +1,57 @@
 // Why a word or its file can't be had, as the system says it.
-ghost use Rattle.std.specs.Prelude.{◌≤◌, length};
-
 use crate::say;
+use arrayvec::ArrayString;
+use std::error::Error;
 use std::io::Write;
+use std::str::Utf8Error;
 use std::{fmt, io};
 
 // What the system says is shorter.
 const TEXT_ROOM: usize = 320;
 
-// The text of an error, without allocation; what is beyond its room is cut.
-#[derive(Drop)]
-struct ErrorText {
-    bytes: [u8; TEXT_ROOM],
-    length: usize,
+#[derive(Debug, Drop)]
+pub enum Failure {
+    TooLong,
+    // The library opens a file by a name that is text alone.
+    NoText,
+    Unopened(io::Error),
 }
 
-impl fmt::Write for ErrorText {
-    fn write_str(&mut self, s: &str) -> fmt::Result {
-        for b in s.as_bytes() {
-            let n = self.length;
-            if n < TEXT_ROOM {
-                self.bytes[n] = *b;
-                self.length = n + 1;
+impl From<Utf8Error> for Failure {
+    fn from(_: Utf8Error) -> Failure {
+        Failure::NoText
+    }
+}
+
+impl From<io::Error> for Failure {
+    fn from(error: io::Error) -> Failure {
+        Failure::Unopened(error)
+    }
+}
+
+impl Error for Failure {}
+
+impl fmt::Display for Failure {
+    fn fmt<W: fmt::Write>(&self, f: &mut fmt::Formatter<W>) -> fmt::Result {
+        match self {
+            Failure::TooLong => f.write_str("File name too long"),
+            Failure::NoText => f.write_str("the name is not UTF-8"),
+            Failure::Unopened(error) => {
+                let mut text = ArrayString::<TEXT_ROOM>::new();
+                let _ = fmt::Write::write(&mut text, error);
+                f.write_str(without_number(text.as_str()))
             }
         }
-        Ok(())
     }
 }
 
-// How much of an error's text stands before the number that the library puts behind it, as in `No such file or directory (os error 2)`.
-fn without_number(text: &[u8]) -> usize
-    ensures { result ≤ length text.now }
-{
-    match text.iter().rposition(|b| *b == b'(') {
-        Some(i) if 0 < i => i - 1,
-        _ => text.len(),
-    }
+// The library puts the system's number behind an error's text, as in `No such file or directory (os error 2)`.
+fn without_number(text: &str) -> &str {
+    text.rsplit_once(" (").map_or(text, |(why, _)| why)
 }
 
-fn say_why(to: &mut impl Write, what: &[u8], why: &[u8]) {
+// What can't be had goes before it as bytes, since it may be no text.
+pub fn say_failure(to: &mut impl Write, what: &[u8], failure: &Failure) {
     say(to, what);
-    say(to, b": ");
-    say(to, why);
-    say(to, b"\n");
-}
-
-pub fn say_failure(to: &mut impl Write, what: &[u8], error: io::Error) {
-    let mut text = ErrorText {
-        bytes: [0; TEXT_ROOM],
-        length: 0,
-    };
-    let _ = fmt::Write::write(&mut text, error);
-    let said = &text.bytes[..text.length.min(TEXT_ROOM)];
-    say_why(to, what, &said[..without_number(said)]);
-}
-
-pub fn say_too_long(to: &mut impl Write, what: &[u8]) {
-    say_why(to, what, b"File name too long");
-}
-
-// There is no such word.
-pub fn say_missing(to: &mut impl Write, what: &[u8]) {
-    say_why(to, what, b"Invalid argument");
-}
-
-// The library opens a file by a name that is text alone.
-pub fn say_no_text(to: &mut impl Write, what: &[u8]) {
-    say_why(to, what, b"the name is not UTF-8");
+    let _ = writeln!(to, ": {failure}");
 }

@@ -1,42 +1,45 @@
 // What replay prints for each trace that a word behind the program's name names.
 #![tactic(auto)]
 
-use named_files::{NAME_ROOM, Named, is_word, open_named, say};
+use named_files::{Failure, Word, Words, open_named, say};
+use replay_stream::Prints;
 use std::io::Write;
 use std::rt::{Env, Files};
+
+// What goes before the output of each file.
+#[derive(Clone, Copy, PartialEq, Eq)]
+pub enum Before {
+    Nothing,
+    Name,
+}
 
 fn one<R: Env + Files>(
     rt: &R,
     to: &mut impl Write,
     err: &mut impl Write,
-    i: usize,
-    tables: bool,
-    named: bool,
+    word: Result<Word, Failure>,
+    prints: Prints,
+    before: Before,
 ) {
-    let mut name = [0u8; NAME_ROOM];
-    let Named { file, length } = open_named(rt, err, i, &mut name, b"a file's name");
-    let Some(mut file) = file else {
+    let Some(mut named) = open_named(rt, err, word, "a file's name") else {
         return;
     };
-    if named {
-        say(to, &name[..length]);
+    if before == Before::Name {
+        say(to, named.name.as_slice());
         say(to, b"\n");
     }
-    replay_stream::pump(rt, &mut file, to, err, tables);
+    replay_stream::pump(rt, &mut named.file, to, err, prints);
 }
 
-// One after the other; each with its name before it, if that is asked for.
+// One after the other.
 pub fn pump_each<R: Env + Files>(
     rt: &R,
     to: &mut impl Write,
     err: &mut impl Write,
-    tables: bool,
-    named: bool,
+    prints: Prints,
+    before: Before,
 ) {
-    for i in 1..usize::MAX {
-        if !is_word(rt, i) {
-            break;
-        }
-        one(rt, to, err, i, tables, named);
+    for word in Words::of(rt) {
+        one(rt, to, err, word, prints, before);
     }
 }

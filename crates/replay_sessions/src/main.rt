@@ -2,6 +2,15 @@
 // inputs of one idea each, under its name; where the idea is a number handed back, n and that number come first.
 #![tactic(auto)]
 
+use replay_files::{Before, pump_each};
+use replay_stream::Prints;
+
 fn main(rt: HostRuntime) {
-    replay_files::pump_each(&rt, &mut rt.stdout(), &mut rt.stderr(), false, true);
+    pump_each(
+        &rt,
+        &mut rt.stdout(),
+        &mut rt.stderr(),
+        Prints::Trace,
+        Before::Name,
+    );
 }

@@ -2,6 +2,15 @@
 // that are answered 6: its expected output is what compare/'s `rust_replay --tables` prints for it.
 #![tactic(auto)]
 
+use replay_files::{Before, pump_each};
+use replay_stream::Prints;
+
 fn main(rt: HostRuntime) {
-    replay_files::pump_each(&rt, &mut rt.stdout(), &mut rt.stderr(), true, true);
+    pump_each(
+        &rt,
+        &mut rt.stdout(),
+        &mut rt.stderr(),
+        Prints::Tables,
+        Before::Name,
+    );
 }
