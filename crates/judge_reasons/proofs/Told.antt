@@ -1,5 +1,5 @@
 -- What a test of a table's rows says of the judge's lists.
-use mathlib.Core.Path.{◌≡◌, ap, ◌∙◌}
+use mathlib.Core.Path.{◌≡◌, ◌∙◌}
 use mathlib.Core.Bool.{◌&&◌}
 use mathlib.Core.List.{List, reverse}
 use mathlib.Core.Logic.{⊎_elim}

@@ -1,4 +1,3 @@
 pub mod Reasons
 pub mod Forms
-pub mod Texts
 pub mod Tests

@@ -3,7 +3,7 @@ ghost use Rattle.std.specs.Prelude.{◌≡◌, true, ◌≤◌, ◌<◌, length,
 ghost use Rattle.judge_reasons.specs.Forms.{Unprinted, IsTrueOf};
 
 use crate::Form;
-use crate::fields::{TAB, byte_at, find_byte, of_fields};
+use crate::fields::{TAB, find_byte, of_fields};
 
 // With the line feed.
 const LONGEST_LINE: usize = 73;
@@ -11,27 +11,19 @@ const LONGEST_LINE: usize = 73;
 fn is_unprinted(b: u8) -> bool
     ensures { result ≡ true → Unprinted b }
 {
-    if b == TAB {
-        return false;
-    }
-    if b < b' ' {
-        return true;
-    }
-    b'~' < b
+    b != TAB && (b < b' ' || b'~' < b)
 }
 
 // The place of a byte that is no text, or the end.
 fn find_unprinted(line: &[u8]) -> usize
     ensures { result < length line.now → Unprinted (get_or line.now result 0) }
 {
-    let mut i = 0;
-    while i < line.len() {
-        if is_unprinted(line[i]) {
+    for (i, b) in line.iter().enumerate() {
+        if is_unprinted(*b) {
             return i;
         }
-        i += 1;
     }
-    i
+    line.len()
 }
 
 // A line that is no other kind of file's.
@@ -44,34 +36,22 @@ fn of_text(line: &[u8]) -> Form
     }
     let space = find_byte(line, 0, b' ');
     let tab = find_byte(line, 0, TAB);
-    if space < line.len() {
-        if line.len() <= tab {
-            return Form::Spaces(space);
-        }
+    if space < line.len() && line.len() <= tab {
+        return Form::Spaces(space);
     }
     of_fields(line)
 }
 
 // A byte order mark, or the first bytes of a file that gzip made.
+#[tactic(auto, unfolding(crate::specs::Forms::IsTrueOf))]
 fn of_start(line: &[u8]) -> Form
     ensures { IsTrueOf line.now result }
 {
-    let first = byte_at(line, 0);
-    let second = byte_at(line, 1);
-    let third = byte_at(line, 2);
-    if first == 0xef {
-        if second == 0xbb {
-            if third == 0xbf {
-                return Form::ByteOrderMark;
-            }
-        }
+    match line {
+        [0xef, 0xbb, 0xbf, ..] => Form::ByteOrderMark,
+        [0x1f, 0x8b, ..] => Form::Compressed,
+        _ => Form::Other,
     }
-    if first == 0x1f {
-        if second == 0x8b {
-            return Form::Compressed;
-        }
-    }
-    Form::Other
 }
 
 // Of a line's bytes without the line feed. What is said of more bytes than a line can have is true of every line that begins with them.

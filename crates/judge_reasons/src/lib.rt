@@ -6,16 +6,15 @@ mod fields;
 mod forms;
 mod order;
 mod parts;
-mod phrases;
 mod ranges;
 mod reasons;
 mod rules;
 mod searches;
-mod texts;
+mod words;
 
 pub use forms::form_of;
 pub use reasons::why;
-pub use texts::{put_empty, put_form, put_large, put_reason, put_within};
+pub use words::Words;
 
 // What is found against a line. The comments name the numbers.
 #[derive(Clone, Copy)]

@@ -12,10 +12,7 @@ const MOST_DIGITS: usize = 20;
 fn is_good(r: Reading) -> bool
     ensures { result ≡ false → r ≡ Reading.Malformed }
 {
-    match r {
-        Reading::Good(_) => true,
-        Reading::Malformed => false,
-    }
+    matches!(r, Reading::Good(_))
 }
 
 pub fn is_word(w: &[u8]) -> bool

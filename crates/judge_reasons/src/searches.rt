@@ -47,10 +47,9 @@ pub fn first_unmapped(mapped: &[Page], a: u64, page: u64, k: u64) -> u64 {
 
 // Another page with the handle of p, among the n addresses from a on or in a live buffer.
 fn find_twin(s: &State, a: u64, n: u64, p: Page) -> Option<Page> {
-    s.mapped
-        .iter()
-        .copied()
-        .find(|q| q.handle == p.handle && q.at != p.at && is_in_buffers(&s.live, a, n, q.at))
+    s.mapped.iter().copied().find(|q| q.handle == p.handle
+        && q.at != p.at
+        && is_in_buffers(&s.live, a, n, q.at))
 }
 
 // A page among the n addresses from a on that has such a twin, and the twin.

@@ -1,6 +1,6 @@
 -- Each rule is what the code tests of its tables.
 use mathlib.Core.Path.{◌≡◌, refl, ap}
-use mathlib.Core.Bool.{Bool, ◌&&◌, not}
+use mathlib.Core.Bool.{◌&&◌, not}
 use mathlib.Core.List.{reverse}
 use Prim.Native.Nat.{ℕ, ◌+◌, ◌%◌, ◌^◌}
 use lib.Dec.{leb, eqb}

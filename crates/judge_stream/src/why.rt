@@ -1,7 +1,5 @@
-// Why the verdict is what it is, in words.
-ghost use Rattle.std.specs.Prelude.{◌+◌, ◌≤◌, length};
-ghost use Rattle.judge_reasons.specs.Texts.{most_text};
-
+// Why the verdict is what it is.
+use judge_reasons::{Words, form_of, why};
 use judge_rules::Verdict;
 use judge_steps::State;
 use trace::{Line, Reading};
@@ -20,43 +18,25 @@ impl Last<'_> {
         self.well && (self.line.is_empty() || self.lines < n && 1 < n - self.lines)
     }
 
-    // The input ends where a line should follow.
-    fn put_missing(&self, out: &mut [u8], at: usize) -> usize
-        requires { at + most_text ≤ length out.old }
-        ensures { result ≤ at + most_text }
-    {
-        if self.line.is_empty() && self.lines == 0 {
-            return judge_reasons::put_empty(out, at);
-        }
-        judge_reasons::put_within(out, at)
-    }
-
-    fn put_rejected(&self, out: &mut [u8], at: usize, state: &State, n: u64, rule: u64) -> usize
-        requires { at + most_text ≤ length out.old }
-        ensures { result ≤ at + most_text }
-    {
+    fn rejected(&self, state: &State, n: u64, rule: u64) -> Words {
         if self.lacks(n) {
-            return self.put_missing(out, at);
+            if self.line.is_empty() && self.lines == 0 {
+                return Words::Empty;
+            }
+            return Words::Within;
         }
         match Line::read(self.line) {
-            Reading::Malformed => {
-                judge_reasons::put_form(out, at, n, judge_reasons::form_of(self.line))
-            }
-            Reading::Good(l) => {
-                judge_reasons::put_reason(out, at, n, rule, judge_reasons::why(state, l, rule))
-            }
+            Reading::Malformed => Words::Malformed(n, form_of(self.line)),
+            Reading::Good(l) => Words::Broken(n, rule, why(state, l, rule)),
         }
     }
 
     // The state is that behind the end of the input.
-    pub fn put_words(&self, out: &mut [u8], at: usize, v: Verdict, state: &State) -> usize
-        requires { at + most_text ≤ length out.old }
-        ensures { result ≤ at + most_text }
-    {
+    pub fn words(&self, v: Verdict, state: &State) -> Option<Words> {
         match v {
-            Verdict::Accepted => at,
-            Verdict::Rejected(n, rule) => self.put_rejected(out, at, state, n, rule),
-            Verdict::Large(n, which) => judge_reasons::put_large(out, at, n, which),
+            Verdict::Accepted => None,
+            Verdict::Rejected(n, rule) => Some(self.rejected(state, n, rule)),
+            Verdict::Large(n, which) => Some(Words::Beyond(n, which)),
         }
     }
 }

@@ -125,18 +125,14 @@ pub fn all_mapped(mapped: &[Page], a: u64, page: u64, k: u64) -> bool
 pub fn is_live(live: &[Live], start: u64, size: u64, stream: u64) -> bool
     ensures { result ≡ holds_buffer live.now start size stream }
 {
-    live.iter()
-        .rev()
-        .any(|b| b.start == start && b.size == size && b.stream == stream)
+    live.iter().rev().any(|b| b.start == start && b.size == size && b.stream == stream)
 }
 
 // No live buffer has one of the n addresses from a on.
 pub fn none_live(live: &[Live], a: u64, n: u64) -> bool
     ensures { result ≡ holds_none live.now a n }
 {
-    live.iter()
-        .rev()
-        .all(|b| is_clear(a, n, b.start, b.size))
+    live.iter().rev().all(|b| is_clear(a, n, b.start, b.size))
 }
 
 // The address x is a live buffer's.
@@ -157,18 +153,14 @@ pub fn is_in_buffers(live: &[Live], a: u64, n: u64, x: u64) -> bool
 fn is_alone(mapped: &[Page], live: &[Live], a: u64, n: u64, p: Page) -> bool
     ensures { result ≡ holds_alone mapped.now live.now a n p }
 {
-    mapped
-        .iter()
-        .rev()
-        .all(|q| q.handle != p.handle || q.at == p.at || !is_in_buffers(live, a, n, q.at))
+    mapped.iter().rev().all(|q| q.handle != p.handle
+        || q.at == p.at
+        || !is_in_buffers(live, a, n, q.at))
 }
 
 // No page among the n addresses from a on has the handle of another there or in a live buffer.
 pub fn no_handle_twice(mapped: &[Page], live: &[Live], a: u64, n: u64) -> bool
     ensures { result ≡ holds_no_twins mapped.now live.now a n }
 {
-    mapped
-        .iter()
-        .rev()
-        .all(|p| !is_inside(a, n, p.at) || is_alone(mapped, live, a, n, *p))
+    mapped.iter().rev().all(|p| !is_inside(a, n, p.at) || is_alone(mapped, live, a, n, *p))
 }

@@ -1,6 +1,5 @@
 -- `judge_tables::all_mapped` meets its contract: what the pages come to is what those from the place of the walk on come to.
 use mathlib.Core.Path.{sym, ◌∙◌}
-use mathlib.Core.Bool.{false}
 use Prim.Native.Nat.{◌+◌, ◌-◌, ◌≤◌, ◌^◌}
 use native.Mathlib.Omega.{arith}
 use Rattle.judge_rules.specs.Rules.{is_mapped}

@@ -7,9 +7,9 @@ pub returns-then-not-self : goal.returns-then-not-self
 returns-then-not-self c =
     let p = c.args.self.now in
     elim c.then-not-self.branch [
-      then-not-self-via-then-not-self w ↦ settle_unopened p _ c.in-Ok.is w.if-not-self.true
-    | then-not-self-via-else-not-self+then-self w ↦
-      settle-waiting p _ c.in-Ok.is w.if-not-self.false w.if-self.true
+      | then-not-self-via-then-not-self w ↦ settle_unopened p _ c.in-Ok.is w.if-not-self.true
+      | then-not-self-via-else-not-self+then-self w ↦
+          settle-waiting p _ c.in-Ok.is w.if-not-self.false w.if-self.true
     ]
 
 pub returns-else-self : goal.returns-else-self

@@ -1,5 +1,5 @@
 -- `judge_steps::State::on_answer` meets its contract: call by call.
-use mathlib.Core.Path.{ap, sym, ◌∙◌}
+use mathlib.Core.Path.{ap, sym}
 use Rattle.judge_rules.specs.Verdict.{answered}
 use Rattle.judge_steps.specs.State.{judge_of}
 use Rattle.judge_steps.proofs.State.on_answer.Goals as goal

@@ -5,7 +5,7 @@ use Rattle.std.proofs.lemmas.List.{length-reverse}
 use Rattle.judge_tables.proofs.Newest.{newest-more}
 use Rattle.judge_rules.specs.Rules.{R2}
 use Rattle.judge_rules.specs.Sizes.{most_held, too_many_held}
-use Rattle.judge_rules.specs.Verdict.{on, recorded, with_held}
+use Rattle.judge_rules.specs.Verdict.{recorded, with_held}
 use Rattle.judge_steps.specs.State.{judge_of}
 use Rattle.judge_steps.proofs.Tested.{r2-is}
 use Rattle.judge_steps.proofs.Stepping.{refused, none_left, one_more}

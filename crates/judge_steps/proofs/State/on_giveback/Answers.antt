@@ -1,5 +1,5 @@
 -- `judge_steps::State::on_giveback` meets its contract: refused by its rule, or the rows that stay.
-use mathlib.Core.Path.{◌≡◌, ap, sym, ◌∙◌}
+use mathlib.Core.Path.{ap, sym, ◌∙◌}
 use mathlib.Core.Bool.{not}
 use lib.Dec.{eqb}
 use Rattle.std.proofs.Common.{rules}

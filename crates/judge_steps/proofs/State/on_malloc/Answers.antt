@@ -2,7 +2,7 @@
 use mathlib.Core.Path.{ap, sym, ◌∙◌}
 use Rattle.judge_rules.specs.Rules.{R7}
 use Rattle.judge_rules.specs.Sizes.{most_live, too_many_live}
-use Rattle.judge_rules.specs.Verdict.{on, answered, with_live}
+use Rattle.judge_rules.specs.Verdict.{answered, with_live}
 use Rattle.judge_tables.specs.Rows.{buffer_of, live_in}
 use Rattle.judge_steps.specs.State.{judge_of}
 use Rattle.judge_steps.proofs.Tested.{r7-is}

@@ -2,7 +2,7 @@
 use mathlib.Core.Path.{ap, sym, ◌∙◌}
 use Rattle.judge_rules.specs.Rules.{R3}
 use Rattle.judge_rules.specs.Sizes.{most_mapped, too_many_mapped}
-use Rattle.judge_rules.specs.Verdict.{on, recorded, with_mapped}
+use Rattle.judge_rules.specs.Verdict.{recorded, with_mapped}
 use Rattle.judge_tables.specs.Rows.{page_of, pages_in}
 use Rattle.judge_steps.specs.State.{judge_of}
 use Rattle.judge_steps.proofs.Tested.{r3-is}

@@ -1,5 +1,5 @@
 -- `judge_steps::State::on_release` meets its contract: refused by its rule, or the rows that stay.
-use mathlib.Core.Path.{◌≡◌, ap, sym, ◌∙◌}
+use mathlib.Core.Path.{ap, sym, ◌∙◌}
 use mathlib.Core.Bool.{Bool, not}
 use lib.Dec.{eqb}
 use mathlib.Core.List.{reverse}

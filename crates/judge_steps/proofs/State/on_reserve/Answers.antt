@@ -2,7 +2,7 @@
 use mathlib.Core.Path.{ap, sym, ◌∙◌}
 use Rattle.judge_rules.specs.Rules.{R1}
 use Rattle.judge_rules.specs.Sizes.{most_reservations, too_many_reservations}
-use Rattle.judge_rules.specs.Verdict.{on, recorded, with_reservations}
+use Rattle.judge_rules.specs.Verdict.{recorded, with_reservations}
 use Rattle.judge_tables.specs.Rows.{reservation_of, reservations_in}
 use Rattle.judge_steps.specs.State.{judge_of}
 use Rattle.judge_steps.proofs.Tested.{r1-is}
