@@ -6,15 +6,15 @@ mod fields;
 mod forms;
 mod order;
 mod parts;
+mod printed;
 mod ranges;
 mod reasons;
 mod rules;
 mod searches;
-mod words;
 
 pub use forms::form_of;
+pub use printed::Words;
 pub use reasons::why;
-pub use words::Words;
 
 // What is found against a line. The comments name the numbers.
 #[derive(Clone, Copy)]
