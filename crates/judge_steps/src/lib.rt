@@ -10,6 +10,7 @@ mod rules;
 use arrayvec::ArrayVec;
 use judge_rules::Run;
 use judge_tables::{Live, Page, Reservation};
+pub use lines::said_of;
 
 // What the lines so far have said: where the trace stands, the reservations, the handles that are held, the mapped pages, the live buffers and the last event id
 // that was recorded. A table has the oldest row first.

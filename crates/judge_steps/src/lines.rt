@@ -40,7 +40,7 @@ fn run_on(c: Call, run: Run, l: Line) -> Run
 }
 
 #[tactic(auto, unfolding(judge_rules::specs::Said::said))]
-fn said_of(kind: u64) -> Said
+pub fn said_of(kind: u64) -> Said
     ensures { result ≡ said kind }
 {
     match kind {

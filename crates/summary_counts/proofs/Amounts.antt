@@ -1,63 +1,44 @@
 -- Amounts of bytes and of pages, from the rows of the judge's tables.
-use mathlib.Core.Path.{◌≡◌, refl, sym}
-use mathlib.Core.Bool.{Bool, true, false, cond}
+use mathlib.Core.Path.{◌≡◌, refl, ap, sym, ◌∙◌}
+use mathlib.Core.Bool.{cond}
 use mathlib.Core.Logic.{◌⊎◌, inl, inr}
-use mathlib.Core.List.{List}
-use Prim.Native.Nat.{ℕ, ◌+◌, ◌*◌, ◌-◌, ◌/◌, ◌≤◌, ◌<◌}
+use mathlib.Core.List.{List, [], ◌∷◌, ◌++◌, reverse}
+use Prim.Native.Nat.{ℕ, ◌+◌, ◌≤◌, ◌<◌}
 use native.Mathlib.Omega.{arith}
-use native.Mathlib.Nat.{div-lt_iff_lt-mul, mul_comm}
+use Rattle.std.proofs.Common.{min}
 use borrow.Author.Tests.{le-leb, lt-leb}
-use Rattle.lists.specs.Tests.{any}
+use Rattle.std.specs.List.{fold}
 use Rattle.lists.specs.Walks.{sum}
 use Rattle.lists.proofs.Tests.{cases_lt}
 use Rattle.lists.proofs.Maps.{sum-map}
-use Rattle.judge_rules.specs.Rules.{is_under}
-use Rattle.judge_tables.specs.Rows.{row_at, rows, second_is}
-use Rattle.judge_tables.proofs.Rows.{turn_down}
-use Rattle.judge_steps.specs.State.{buffer_of, pages_in, live_in}
-use Rattle.judge_steps.proofs.RulesByTests.{under-is}
+use Rattle.judge_tables.specs.Rows.{buffer_of, live_in, pages_in, holds_under}
+use Rattle.judge_tables.specs.declared.rows.Live.{Live}
+use Rattle.judge_tables.specs.declared.rows.Page.{Page}
+use Rattle.judge_tables.proofs.Newest.{newest-more, under-is}
 use Rattle.summary_counts.specs.Counts.{most_bytes, capped, zombies}
 
-pub capped-below : (n : ℕ) → n ≤ most_bytes → n ≡ capped n
-capped-below n h = rw (le-leb n most_bytes h)
-
-pub capped_above : (n : ℕ) → most_bytes < n → most_bytes ≡ capped n
-capped_above n h = rw (lt-leb n most_bytes h)
-
--- the second numbers of the rows are the sizes of the buffers
-abbrev pub seconds : ℕ → List ℕ → ℕ
-seconds n t = sum (λ w. w.second) (rows n t)
-
-pub sizes_are : (n : ℕ) (t : List ℕ) → seconds n t ≡ sum (λ b. b.size) (live_in n t)
-sizes_are n t = sym (sum-map buffer_of (λ b. b.size) (rows n t))
-
-pub seconds-turn : (i : ℕ) (t : List ℕ) → 0 < i → seconds i t ≡ (row_at t (i - 1)).second + seconds (i - 1) t
-seconds-turn i t h = rw (turn_down t i h)
-
--- a product that passes the most, and one that does not
-pub product_above : (p n : ℕ) → 0 < p → most_bytes / p < n → most_bytes < p * n
-product_above p n h q = rw mul_comm ((div-lt_iff_lt-mul h).0 q)
-
-pub product-below : (p n : ℕ) → 0 < p → n ≤ most_bytes / p → p * n ≤ most_bytes
-product-below p n h q = go (cases_lt most_bytes (p * n))
+pub capped-is : (n : ℕ) → min n most_bytes ≡ capped n
+capped-is n = go (cases_lt most_bytes n)
   where
-    go : (most_bytes < p * n) ⊎ (p * n ≤ most_bytes) → p * n ≤ most_bytes
-    go (inl r) =
-        let s : most_bytes < n * p = rw (mul_comm n p) r in
-        let u : most_bytes / p < n = (div-lt_iff_lt-mul h).1 s in
-        absurd (omega arith)
-    go (inr r) = r
+    go : (most_bytes < n) ⊎ (n ≤ most_bytes) → min n most_bytes ≡ capped n
+    go (inl h) = rw (lt-leb n most_bytes h) (omega arith)
+    go (inr h) = rw (le-leb n most_bytes h) (omega arith)
 
--- a turn of the walk over the mapped pages
-module _ (i : ℕ) (t : List ℕ) (h : 0 < i) where
-  turn : (b : Bool) → b ≡ any (second_is (row_at t (i - 1)).second) (rows (i - 1) t) →
-      zombies (pages_in i t) ≡ cond b (zombies (pages_in (i - 1) t) + 1) (zombies (pages_in (i - 1) t))
-  turn b e =
-      let u : is_under (pages_in (i - 1) t) (row_at t (i - 1)).second ≡ b = under-is (rows (i - 1) t) (row_at t (i - 1)).second b e in
-      rw (turn_down t i h, u) refl
+-- sizes added up, but for what is beyond the most
+total-of : (n : ℕ) (t : List Live) → fold (λ total b. min (total + b.size) most_bytes) (min n most_bytes) t ≡ min (n + sum (λ b. b.size) t) most_bytes
+total-of n [] = let z : n ≡ n + 0 = omega arith in ap (λ m. min m most_bytes) z
+total-of n (b ∷ t) =
+    let e : min (min n most_bytes + b.size) most_bytes ≡ min (n + b.size) most_bytes = omega arith in
+    let a : n + b.size + sum (λ b. b.size) t ≡ n + (b.size + sum (λ b. b.size) t) = omega arith in
+    ap (λ m. fold (λ total b. min (total + b.size) most_bytes) m t) e ∙ total-of (n + b.size) t ∙ ap (λ m. min m most_bytes) a
 
-  pub zombie_here : true ≡ any (second_is (row_at t (i - 1)).second) (rows (i - 1) t) → zombies (pages_in i t) ≡ zombies (pages_in (i - 1) t) + 1
-  zombie_here e = turn true e
+pub total-live : (t : List Live) → fold (λ total b. min (total + b.size) most_bytes) 0 (reverse t) ≡ capped (sum (λ b. b.size) (live_in t))
+total-live t =
+    let n = sum (λ b. b.size) (reverse t) in
+    let z : 0 + n ≡ n = omega arith in
+    total-of 0 (reverse t) ∙ ap (λ m. min m most_bytes) z ∙ capped-is n ∙ ap capped (sym (sum-map buffer_of (λ b. b.size) (reverse t)))
 
-  pub zombie-not : false ≡ any (second_is (row_at t (i - 1)).second) (rows (i - 1) t) → zombies (pages_in i t) ≡ zombies (pages_in (i - 1) t)
-  zombie-not e = turn false e
+-- a page more, the newest: with an older one of its handle, and without
+pub zombie-more : (older : List Page) (p : Page) →
+    zombies (pages_in (older ++ p ∷ [])) ≡ cond (holds_under older p.handle) (zombies (pages_in older) + 1) (zombies (pages_in older))
+zombie-more older p = rw (newest-more older p, under-is older p.handle) refl

@@ -16,7 +16,8 @@ use Rattle.judge_rules.specs.declared.Call.TheVariants.{Open, Malloc, Free, Clos
 use Rattle.judge_rules.specs.declared.Said.{Said}
 use Rattle.judge_rules.specs.declared.Said.TheVariants.{Record, Call as Calls, Result, Aside, Unknown}
 use Rattle.judge_rules.proofs.PageLaws.{filter_map}
-use Rattle.summary_counts.specs.HandOvers.{HandOver, hand_overs}
+use Rattle.summary_counts.specs.HandOvers.{hand_overs}
+use Rattle.summary_counts.specs.declared.handed.HandOver.{HandOver}
 
 abbrev Span : Type 0
 Span = ℕ × ℕ

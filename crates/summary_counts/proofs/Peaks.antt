@@ -9,7 +9,7 @@ use lib.ListN.{length, drop}
 use Rattle.lists.proofs.Tests.{cases_lt}
 use Rattle.trace.specs.declared.Line.{Line}
 use Rattle.summary_counts.specs.Counts.{live_bytes, mapped_bytes, higher, peak}
-use Rattle.summary_counts.specs.declared.Peak.{Peak}
+use Rattle.summary_counts.specs.declared.tallies.Peak.{Peak}
 
 higher-most : (p : Peak) (a n : ℕ) → (p.most ≤ (higher p a n).most) × (a ≤ (higher p a n).most)
 higher-most p a n = go (cases_lt p.most a)

@@ -1,6 +1,6 @@
 -- What a summary says of a trace, from its lines alone. The lines so far are a list, the newest first; the number of a line, counted from 1, is how many lines
 -- there are up to it.
-use Rattle.std.specs.Prelude.{cond, List, [], ◌∷◌, ℕ, ◌+◌, ◌*◌, ltb, leb, eqb, length}
+use Rattle.std.specs.Prelude.{cond, List, [], ◌∷◌, map, ℕ, ◌+◌, ◌*◌, ◌≤◌, ltb, leb, eqb, length, get_or}
 use Rattle.lists.specs.Walks.{sum}
 use Rattle.trace.specs.declared.Line.{Line}
 use Rattle.judge_rules.specs.Said.{said}
@@ -10,7 +10,8 @@ use Rattle.judge_rules.specs.Meaning.{live}
 use Rattle.judge_rules.specs.declared.Call.{Call}
 use Rattle.judge_rules.specs.declared.Said.{Said}
 use Rattle.judge_rules.specs.declared.Said.TheVariants.{Record, Call as Calls, Result, Aside, Unknown}
-use Rattle.summary_counts.specs.declared.Peak.{Peak}
+use Rattle.summary_counts.specs.declared.tallies.Peak.{Peak}
+use Rattle.summary_counts.specs.declared.tallies.Times.{Times}
 
 -- A table counts every line at one place, by a function of the line and of those before it. How many lines stand at the place `n`;
 abbrev pub counted : (Line → List Line → ℕ) → ℕ → List Line → ℕ
@@ -24,6 +25,17 @@ or_else first other = cond (eqb first 0) other first
 abbrev pub first_at : (Line → List Line → ℕ) → ℕ → List Line → ℕ
 first_at at n [] = 0
 first_at at n (l ∷ before) = cond (eqb (at l before) n) (or_else (first_at at n before) (length before + 1)) (first_at at n before)
+
+-- The two numbers of each place of a table;
+abbrev pub counts_of : List Times → List ℕ
+counts_of t = map (λ w. w.count) t
+
+abbrev pub firsts_of : List Times → List ℕ
+firsts_of t = map (λ w. w.first) t
+
+-- no count is above the number of lines.
+abbrev pub Few : ℕ → List ℕ → Type 0
+Few lines t = (i : ℕ) → get_or t i 0 ≤ lines
 
 -- Answers: the places of a call are one for each number from 0 to 19, as docs/RULES.md 4.1 has them, and one for all that are above. The calls follow each other
 -- as open, malloc, free, close; behind them is the place of the lines that are no results.

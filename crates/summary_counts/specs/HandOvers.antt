@@ -1,5 +1,6 @@
 -- The hand-over of each live buffer, from the lines alone: as the live buffers of crates/judge_rules, the newest first, each with the number of its line.
-use Rattle.std.specs.Prelude.{◌≡◌, Bool, true, false, not, List, [], ◌∷◌, map, ℕ, ◌+◌, ◌≤◌, eqb, length}
+use Rattle.std.specs.Prelude.{◌≡◌, Bool, true, false, not, List, [], ◌∷◌, reverse, ℕ, ◌+◌, ◌≤◌, eqb, length}
+use Rattle.arrayvec.specs.ArrayVec.{ArrayVec}
 use Rattle.lists.specs.Tests.{filter}
 use Rattle.trace.specs.declared.Line.{Line}
 use Rattle.judge_rules.specs.Said.{said}
@@ -10,17 +11,11 @@ use Rattle.judge_rules.specs.declared.Call.{Call}
 use Rattle.judge_rules.specs.declared.Call.TheVariants.{Open, Malloc, Free, Close}
 use Rattle.judge_rules.specs.declared.Said.{Said}
 use Rattle.judge_rules.specs.declared.Said.TheVariants.{Record, Call as Calls, Result, Aside, Unknown}
-use Rattle.judge_tables.specs.Rows.{rows}
-use Rattle.judge_tables.specs.declared.Row.{Row}
-
-pub record HandOver : Type 0 where
-  pub start : ℕ
-  pub size : ℕ
-  pub line : ℕ
+use Rattle.summary_counts.specs.declared.handed.HandOver.{HandOver}
 
 -- A call's result of answer 0: a malloc's hands a buffer over, a free's ends the one at its address.
 abbrev pub answered_by : Call → Asked → Line → ℕ → List HandOver → List HandOver
-answered_by Malloc a l n hs = record { start = l.first; size = l.second; line = n } ∷ hs
+answered_by Malloc a l n hs = record { start = l.first; size = l.second; stream = a.second; line = n } ∷ hs
 answered_by Free a l n hs = filter (λ o. not (eqb o.start a.first)) hs
 answered_by Open a l n hs = hs
 answered_by Close a l n hs = hs
@@ -45,14 +40,10 @@ abbrev pub hand_overs : List Line → List HandOver
 hand_overs [] = []
 hand_overs (l ∷ before) = handed_by (said l.kind) (eqb l.third 0) (call before) l (length before + 1) (hand_overs before)
 
--- the rows of a table, as hand-overs
-abbrev pub hand_over_of : Row → HandOver
-hand_over_of w = record { start = w.first; size = w.second; line = w.third }
+-- those of a table, whose oldest stands first
+abbrev pub hand_overs_in : ArrayVec HandOver → List HandOver
+hand_overs_in t = reverse t.items
 
-abbrev pub hand_overs_in : ℕ → List ℕ → List HandOver
-hand_overs_in n t = map hand_over_of (rows n t)
-
--- The `r` rows of `t` are these hand-overs, where the judge has room for so many live buffers.
-pub record Leaves (r : ℕ) (t : List ℕ) (hs : List HandOver) : Type 0 where
-  pub few : r ≤ most_live
-  pub rows : length hs ≤ most_live → hand_overs_in r t ≡ hs
+-- The table holds these hand-overs, where the judge has room for so many live buffers.
+abbrev pub Leaves : ArrayVec HandOver → List HandOver → Type 0
+Leaves t hs = length hs ≤ most_live → hand_overs_in t ≡ hs

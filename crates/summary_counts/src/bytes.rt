@@ -1,59 +1,38 @@
 // Amounts, from the judge's tables.
 ghost use Rattle.std.specs.Prelude.{◌≡◌, ◌*◌};
 ghost use Rattle.lists.specs.Walks.{sum};
-ghost use Rattle.judge_tables.specs.Promises.{HasRows};
-ghost use Rattle.judge_steps.specs.State.{pages_in, live_in};
+ghost use Rattle.judge_tables.specs.Rows.{pages_in, live_in};
 ghost use Rattle.summary_counts.specs.Counts.{capped, zombies};
 
-use judge_tables::{Row, has_second};
-
-const MOST_BYTES: u64 = 0xffff_ffff_ffff_ffff;
+use judge_tables::{Live, Page, is_under};
 
 // The bytes of the live buffers.
-pub fn live_bytes(live: &[u64], count: usize) -> u64
-    requires { HasRows count live.now }
-    ensures { result ≡ capped (sum (λ b. b.size) (live_in count live.now)) }
+pub(crate) fn live_bytes(live: &[Live]) -> u64
+    ensures { result ≡ capped (sum (λ b. b.size) (live_in live.now)) }
 {
-    let mut total: u64 = 0;
-    let mut i = count;
-    while 0 < i {
-        i -= 1;
-        let size = live[Row::NUMBERS * i + 1];
-        if MOST_BYTES - total < size {
-            return MOST_BYTES;
-        }
-        total += size;
-    }
-    total
+    live.iter()
+        .rev()
+        .fold(0, |total: u64, buffer| total.saturating_add(buffer.size))
 }
 
 // The bytes of so many mapped pages.
-pub fn mapped_bytes(page: u64, count: usize) -> u64
+pub(crate) fn mapped_bytes(page: u64, count: usize) -> u64
     ensures { result ≡ capped (page * count) }
 {
-    if page == 0 {
-        return 0;
-    }
-    let n = count as u64;
-    if MOST_BYTES / page < n {
-        return MOST_BYTES;
-    }
-    page * n
+    page.saturating_mul(count as u64)
 }
 
-// The mapped pages that are left behind by a move.
-pub fn zombie_pages(mapped: &[u64], count: usize) -> usize
-    requires { HasRows count mapped.now }
-    ensures { result ≡ zombies (pages_in count mapped.now) }
+// The mapped pages that are left behind by a move: an older one than another of its handle.
+pub fn zombie_pages(mapped: &[Page]) -> usize
+    ensures { result ≡ zombies (pages_in mapped.now) }
 {
-    let mut n: usize = 0;
-    let mut i = count;
-    while 0 < i {
-        i -= 1;
-        let handle = mapped[Row::NUMBERS * i + 1];
-        if has_second(mapped, i, handle) {
-            n += 1;
+    let mut zombies = 0;
+    let mut newest = mapped;
+    while let Some((page, older)) = newest.split_last() {
+        if is_under(older, page.handle) {
+            zombies += 1;
         }
+        newest = older;
     }
-    n
+    zombies
 }

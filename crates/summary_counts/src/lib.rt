@@ -1,8 +1,9 @@
-// What a summary counts of a trace, a line at a time: answers by call and number, failed driver lines by word, and the peaks of live and of mapped bytes.
+// What a summary counts of a trace, a line at a time: answers by call and number, failed driver lines by word, the peaks of live and of mapped bytes, and the
+// hand-over of each live buffer.
 #![tactic(auto)]
 
 ghost use Rattle.std.specs.Prelude.{◌≡◌};
-ghost use Rattle.summary_counts.specs.Taking.{at_start};
+ghost use Rattle.summary_counts.specs.Taking.{Starts, standing_of};
 
 mod bytes;
 mod handed;
@@ -10,68 +11,57 @@ mod lines;
 mod tallies;
 
 pub use bytes::zombie_pages;
-use judge_steps::{Outcome, State};
-pub use lines::take;
+pub use handed::{HandOver, HandOvers};
+use judge_rules::Run;
+use judge_steps::State;
+pub use tallies::{Counts, Peak, Times};
 
-// The most that an amount was, and the line at which it first was that.
+// The judge's state, but for the rows of its tables: of each, how many there are.
 #[derive(Clone, Copy)]
-pub struct Peak {
-    pub most: u64,
-    pub line: u64,
+pub struct Standing {
+    pub run: Run,
+    pub reservations: usize,
+    pub held: usize,
+    pub mapped: usize,
+    pub live: usize,
+    pub last: Option<u64>,
 }
 
-// The counts beside the tables: the lines so far, the peaks of live bytes and of mapped bytes.
-#[derive(Clone, Copy)]
-pub struct Counts {
-    pub lines: u64,
-    pub live: Peak,
-    pub mapped: Peak,
-}
-
-// What a summary holds beside its tables and the judge's: the judge's state, the counts, and how many rows of hand-overs are in use.
-#[derive(Clone, Copy)]
-pub struct Sums {
+// What a summary holds: the judge's state, which a line that is refused may leave between two lines, and how it stood behind the last line that was taken; the
+// counts, and the hand-overs of the live buffers.
+#[derive(Drop)]
+pub struct Summary {
     pub state: State,
+    pub standing: Standing,
     pub counts: Counts,
-    pub handed: usize,
+    pub handed: HandOvers,
 }
 
-// What a line came to.
-#[derive(Clone, Copy)]
-pub struct Taken {
-    pub sums: Sums,
-    pub outcome: Outcome,
-}
-
-// Before the first line; the summary's own tables are then all zeros.
-pub fn start() -> Sums
-    ensures { result ≡ at_start }
+fn standing_of(state: &State) -> Standing
+    ensures { result ≡ standing_of state.now }
 {
-    let progress = judge_chunks::start();
-    let state = progress.state;
-    let none = Peak { most: 0, line: 0 };
-    Sums {
-        state,
-        counts: Counts {
-            lines: 0,
-            live: none,
-            mapped: none,
-        },
-        handed: 0,
+    Standing {
+        run: state.run,
+        reservations: state.reservations.len(),
+        held: state.held.len(),
+        mapped: state.mapped.len(),
+        live: state.live.len(),
+        last: state.last,
     }
 }
 
-impl Counts {
-    // The answer numbers that are counted apart, and those above them, as one.
-    pub const OTHER_NUMBER: usize = 20;
-
-    pub const PER_CALL: usize = 21;
-
-    // The place of the lines that are no results, behind those of the four calls.
-    pub const NO_ANSWER: usize = 84;
-
-    // How many numbers the slices have that are lent for the tables.
-    pub const ANSWER_PLACES: usize = 85;
-
-    pub const FAILURE_PLACES: usize = 19;
+impl Summary {
+    // Before the first line.
+    pub fn new() -> Summary
+        ensures { Starts result }
+    {
+        let state = State::new();
+        let standing = standing_of(&state);
+        Summary {
+            state,
+            standing,
+            counts: Counts::new(),
+            handed: HandOvers::new(),
+        }
+    }
 }

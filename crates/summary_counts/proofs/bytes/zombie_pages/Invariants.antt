@@ -1,11 +1,12 @@
 use mathlib.Core.Path.{◌≡◌}
 use Prim.Native.Nat.{◌+◌, ◌≤◌}
-use Rattle.judge_steps.specs.State.{pages_in}
+use lib.ListN.{length}
+use Rattle.judge_tables.specs.Rows.{pages_in}
 use Rattle.summary_counts.specs.Counts.{zombies}
 use Rattle.summary_counts.proofs.bytes.zombie_pages.Given as goal
 
-abbrev pub invariant-loop-i : goal.invariant-loop-i
-invariant-loop-i l = (l.n + l.i ≤ l.count) × (l.n + zombies (pages_in l.i l.mapped) ≡ zombies (pages_in l.count l.mapped))
+abbrev pub invariant-loop-page : goal.invariant-loop-page
+invariant-loop-page l = (l.zombies + length l.newest ≤ length l.fn.mapped) × (l.zombies + zombies (pages_in l.newest) ≡ zombies (pages_in l.fn.mapped))
 
-abbrev pub decreases-loop-i : goal.decreases-loop-i
-decreases-loop-i l = l.i
+abbrev pub decreases-loop-page : goal.decreases-loop-page
+decreases-loop-page l = length l.newest

@@ -1,14 +1,18 @@
--- `summary_counts::handed::on_done` meets its contract, call by call.
-use mathlib.Core.Path.{ap, sym}
-use Rattle.judge_rules.specs.declared.Call.{Call}
-use mathlib.Core.List.{List}
-use Rattle.summary_counts.specs.HandOvers.{HandOver, answered_by, hand_overs_in}
-use Rattle.summary_counts.proofs.Handing.{rows_left, same-leaves}
+-- `summary_counts::on_done` meets its contract, call by call.
+use mathlib.Core.Path.{◌≡◌}
+use mathlib.Core.Bool.{not}
+use lib.Dec.{eqb}
+use Rattle.std.proofs.Common.{rules}
+use Rattle.std.specs.List as library
+use Rattle.arrayvec.proofs.ArrayVecLemmas.{filter-from_retain}
+use Rattle.summary_counts.specs.declared.handed.HandOver.{HandOver}
+use Rattle.summary_counts.proofs.Handing.{handed-left}
 use Rattle.summary_counts.proofs.handed.on_done.Goals as goal
 
 pub returns-in-Free : goal.returns-in-Free
 returns-in-Free c =
-    let v = c.args in
-    let by : Call → List HandOver = λ k. answered_by k v.asked v.l v.line (hand_overs_in v.n v.handed.now) in
-    same-leaves _ _ _ _ (ap by (sym c.in-Free.is))
-    (rows_left v.n _ v.handed.now _ v.asked v.l v.line c.requires.few c.without.ensures)
+    let a = c.args.asked.first in
+    let e : c.retain.new.self.items ≡ library.filter (λ (o : HandOver). not (eqb o.start a)) c.args.handed.now.items =
+    filter-from_retain _ _ _ (λ x b f y called. search rules) _ _ c.retain.ensures.filtered
+    in
+    rw c.in-Free.is (handed-left a c.args.handed.now c.retain.new.self e)
