@@ -383,7 +383,8 @@ impl Line {
     // The line with its line feed, from a place of the buffer on; the place after it.
     pub fn put(self, out: &mut [u8], at: usize) -> usize
         requires { at + longest_line ≤ length out.old }
-        ensures { Put out.old out.new at result (printed self) }
+        ensures puts { Put out.old out.new at result (printed self) }
+        ensures within { result ≤ at + longest_line }
     {
         let word = word(self.kind);
         put_text(out, at, word, self.first, self.second, self.third)
