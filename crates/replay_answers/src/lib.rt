@@ -52,6 +52,7 @@ fn value_in(l: Line) -> u64
     }
 }
 
+// kept: answers are pairs of numbers in one slice, as C lends them to `pool_open` and its like.
 // The answer of a driver line after `count` others; what is passed over has none. How many are then kept.
 fn lend(l: Line, answers: &mut [u64], count: usize) -> usize
     requires { Room answers.old count }

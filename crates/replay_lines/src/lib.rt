@@ -10,6 +10,7 @@ ghost use Rattle.replay_lines.specs.Traced.{call_line, result_of, PutCall};
 use tables::Outcome;
 use trace::Line;
 
+// kept: a log is a slice of numbers with a count of records beside it, as C lends it to `pool_open` and its like.
 // Each of the first `count` records, from a place of the buffer on; the place after them.
 pub fn put_records(log: &[u64], count: usize, out: &mut [u8], at: usize) -> usize
     requires { (4 * count ≤ length log.now) × (at + longest_line * count ≤ length out.old) }

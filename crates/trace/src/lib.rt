@@ -249,6 +249,7 @@ impl Partial {
     }
 }
 
+// kept: a buffer and the place in it are two arguments, since a struct of both would say `Put` of the same values in each clause.
 pub fn put_byte(out: &mut [u8], at: usize, b: u8) -> usize
     requires { at < length out.old }
     ensures { Put out.old out.new at result (b ∷ []) }
