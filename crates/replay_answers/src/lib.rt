@@ -38,40 +38,31 @@ fn is_passed_over(l: Line) -> bool
 fn is_call(l: Line) -> bool
     ensures { result ≡ is_call l }
 {
-    if l.kind < Line::OPEN {
-        return false;
-    }
-    !is_passed_over(l)
+    Line::OPEN <= l.kind && !is_passed_over(l)
 }
 
 // docs/RULES.md 7.1: the value that a driver line lends.
 fn value_in(l: Line) -> u64
     ensures { result ≡ value_in l }
 {
-    let kind = l.kind;
-    match kind {
-        Line::RESERVE => l.first,
-        Line::CREATE => l.first,
+    match l.kind {
+        Line::RESERVE | Line::CREATE => l.first,
         Line::ASKED => l.second,
         _ => 0,
     }
 }
 
+// kept: answers are pairs of numbers in one slice, as C lends them to `pool_open` and its like.
 // The answer of a driver line after `count` others; what is passed over has none. How many are then kept.
 fn lend(l: Line, answers: &mut [u64], count: usize) -> usize
     requires { Room answers.old count }
     ensures { Lends l answers.old count answers.new result }
 {
-    if l.kind >= Line::OPEN {
+    if l.kind >= Line::OPEN || count == KEPT {
         return count;
     }
-    if count == KEPT {
-        return count;
-    }
-    let code = 2 * count;
-    let value = code + 1;
-    answers[code] = l.third;
-    answers[value] = value_in(l);
+    answers[2 * count] = l.third;
+    answers[2 * count + 1] = value_in(l);
     count + 1
 }
 
@@ -88,51 +79,35 @@ pub fn gather(
     ensures { Gathers partial line chunk.now at
         answers.old count answers.new result }
 {
-    let mut i = at;
-    let mut p = partial;
-    let mut n = line;
-    let mut kept = count;
-    while i < chunk.len() {
-        let r = p.scan(chunk, i);
-        let q = r.partial;
-        i = r.at;
-        if !r.ended {
-            return Gathered {
-                at: i,
-                partial: q,
-                line: n,
-                count: kept,
-                stop: Stop::More,
-            };
-        }
-        let reading = q.finish();
-        let Reading::Good(l) = reading else {
-            return Gathered {
-                at: i,
-                partial: Partial::fresh(),
-                line: n,
-                count: kept,
-                stop: Stop::Malformed,
-            };
-        };
-        if is_call(l) {
-            return Gathered {
-                at: i,
-                partial: Partial::fresh(),
-                line: n,
-                count: kept,
-                stop: Stop::Call(l),
-            };
-        }
-        kept = lend(l, answers, kept);
-        n += 1;
-        p = Partial::fresh();
-    }
-    Gathered {
-        at: i,
-        partial: p,
-        line: n,
-        count: kept,
+    let mut g = Gathered {
+        at,
+        partial,
+        line,
+        count,
         stop: Stop::More,
+    };
+    while g.at < chunk.len() {
+        let r = g.partial.scan(chunk, g.at);
+        g.at = r.at;
+        if !r.ended {
+            g.partial = r.partial;
+            return g;
+        }
+        g.partial = Partial::fresh();
+        match r.partial.finish() {
+            Reading::Malformed => {
+                g.stop = Stop::Malformed;
+                return g;
+            }
+            Reading::Good(l) if is_call(l) => {
+                g.stop = Stop::Call(l);
+                return g;
+            }
+            Reading::Good(l) => {
+                g.count = lend(l, answers, g.count);
+                g.line += 1;
+            }
+        }
     }
+    g
 }

@@ -1,11 +1,12 @@
 -- What a turn comes to, by whether the waiting call is due and has a result; and the end.
 use mathlib.Core.Path.{◌≡◌, refl, sym, ap, ◌∙◌}
-use mathlib.Core.Bool.{true, false, cond}
+use mathlib.Core.Bool.{Bool, true, false, cond}
 use mathlib.Core.List.{List, [], ◌++◌, append-nil}
 use Prim.Native.Nat.{ℕ, ◌*◌, ◌<◌}
 use native.Mathlib.Omega.{arith}
 use borrow.Author.Tests.{ne_eqb}
 use lib.ListN.{length, take, drop}
+use Rattle.std.specs.Prelude.{Some, None}
 use Rattle.tables.specs.Bounds.{LOG}
 use Rattle.tables.specs.declared.Pool as tables
 use Rattle.trace.specs.Kinds.{OPEN, MALLOC, FREE}
@@ -18,6 +19,7 @@ use Rattle.calls.specs.declared.Called.{Called}
 use Rattle.replay_rules.specs.Replay.{answered}
 use Rattle.replay_waiting.specs.Places.{is_ended, todo}
 use Rattle.replay_waiting.specs.Promises.{Advances}
+use Rattle.replay_waiting.specs.declared.Pending.{Pending}
 use Rattle.replay_waiting.specs.declared.Place.{Place}
 use Rattle.replay_waiting.specs.declared.Advanced.{Advanced}
 use Rattle.replay_chunks.specs.Promises.{Runs, RunsDue, Turned, Lasts}
@@ -43,11 +45,11 @@ module _ (p : Pool) (l : Line) {xs log : List ℕ} {r : Called} {log' : List ℕ
 
 -- the run is over
 abbrev pub over_of : Place → Place
-over_of s = record { partial = s.partial; line = s.line; call = s.call; number = s.number; count = s.count; started = s.started; over = true }
+over_of s = record { partial = s.partial; line = s.line; pending = s.pending; count = s.count; over = true }
 
 module _ (p : Pool) (s : Place) {chunk : List ℕ} {at : ℕ} {cells cells' middle : List ℕ} {a : Advanced} (w : Advances s chunk at cells cells' middle a) (h : at < length chunk) where
   -- no call is due
-  pub turn-reads : a.due ≡ false → Turned p s chunk at cells cells' middle (record { pool = p; place = a.place; at = a.at; filled = a.filled; shown = false })
+  pub turn-reads : a.due ≡ None → Turned p s chunk at cells cells' middle (record { pool = p; place = a.place; at = a.at; filled = a.filled; shown = false })
   turn-reads e =
       let n : a.place.count ≡ a.count = w.next ∙ rw e in
       record {
@@ -63,7 +65,7 @@ module _ (p : Pool) (s : Place) {chunk : List ℕ} {at : ℕ} {cells cells' midd
             record { answers = g.answers; keeps = rw n g.keeps; same = λ show more. rw e at (g.same show p.value more) };
       }
 
-  module _ (e : a.due ≡ true) {out : List ℕ} {r : Ran} (d : RunsDue p s.call s.number (take (2 * a.count) cells') out r) where
+  module _ {due : Pending} (e : a.due ≡ Some due) {out : List ℕ} {r : Ran} (d : RunsDue p due.call due.number (take (2 * a.count) cells') out r) where
     none_lent : a.place.count ≡ 0
     none_lent = w.next ∙ rw e
 
@@ -115,13 +117,17 @@ module _ (p : Pool) (s : Place) {cells out : List ℕ} where
   unfolding todo
   last-over e = record { filled = omega arith; same = λ xs k f show. rw e }
 
-  pub last_none : s.over ≡ false → s.started ≡ false → Lasts p s cells out (record { pool = p; filled = 0; shown = false })
+  pub last_none : s.pending ≡ None → Lasts p s cells out (record { pool = p; filled = 0; shown = false })
   unfolding todo
-  last_none e b = record { filled = omega arith; same = λ xs k f show. rw (e, b, fresh-left s e f) }
+  last_none b = go s.over refl
+    where
+      go : (o : Bool) → s.over ≡ o → Lasts p s cells out (record { pool = p; filled = 0; shown = false })
+      go true e = last-over e
+      go false e = record { filled = omega arith; same = λ xs k f show. rw (e, b, fresh-left s e f) }
 
-  pub last_runs : s.over ≡ false → s.started ≡ true → {r : Ran} → RunsDue p s.call s.number (take (2 * s.count) cells) out r → Lasts p s cells out r
+  pub last_runs : {due : Pending} → s.over ≡ false → s.pending ≡ Some due → {r : Ran} → RunsDue p due.call due.number (take (2 * s.count) cells) out r → Lasts p s cells out r
   unfolding todo
-  last_runs e b {r} d =
+  last_runs {due} e b {r} d =
       record {
         filled = d.filled;
         same = λ xs k f show.

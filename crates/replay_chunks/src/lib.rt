@@ -11,7 +11,7 @@ ghost use Rattle.replay_chunks.specs.Promises.{Buffers, Runs, RunsDue, Turned, L
 
 use calls::{Called, Pool};
 use replay_lines::{is_short, put_call};
-use replay_waiting::{Place, advance};
+use replay_waiting::{Pending, Place, advance};
 use trace::{Line, put_short};
 use words::Address;
 
@@ -52,8 +52,7 @@ fn run(pool: Pool, call: Line, answers: &[u64], log: &mut [u64]) -> Called
     requires { length log.old ≡ 4 * LOG }
     ensures { Runs pool call answers.now log.old result log.new }
 {
-    let kind = call.kind;
-    match kind {
+    match call.kind {
         Line::OPEN => Pool::open(call.first, 0, call.second, call.third, 0, answers, log),
         Line::MALLOC => pool.malloc(call.first, call.second, answers, log),
         Line::FREE => pool.free(Address(call.first), answers, log),
@@ -70,30 +69,22 @@ pub struct Ran {
 }
 
 // docs/RULES.md 7.5: `short` in the place of a call answered 17.
-fn run_due(
-    pool: Pool,
-    call: Line,
-    number: u64,
-    answers: &[u64],
-    log: &mut [u64],
-    out: &mut [u8],
-) -> Ran
+fn run_due(pool: Pool, due: Pending, answers: &[u64], log: &mut [u64], out: &mut [u8]) -> Ran
     requires { (length log.old ≡ 4 * LOG) × (longest_call ≤ length out.old) }
-    ensures { RunsDue pool call number answers.now out.new result }
+    ensures { RunsDue pool due.call due.number answers.now out.new result }
 {
-    let called = run(pool, call, answers, log);
+    let called = run(pool, due.call, answers, log);
     let outcome = called.outcome;
-    let left = called.pool;
     if is_short(outcome) {
         return Ran {
-            pool: left,
-            filled: put_short(out, 0, number),
+            pool: called.pool,
+            filled: put_short(out, 0, due.number),
             shown: false,
         };
     }
     Ran {
-        pool: left,
-        filled: put_call(call, outcome, log, called.records, out),
+        pool: called.pool,
+        filled: put_call(due.call, outcome, log, called.records, out),
         shown: true,
     }
 }
@@ -109,6 +100,7 @@ pub struct Step {
 }
 
 // Reads on in a chunk, up to its end or to the next call line, where the waiting call is run.
+// kept: `turn` and `last` take any three slices of these lengths, and a struct of arrays would ask more of a caller.
 pub fn turn(
     pool: Pool,
     s: Place,
@@ -124,36 +116,26 @@ pub fn turn(
         answers.old answers.new out.new result }
 {
     let a = advance(s, chunk, at, answers, out);
-    let place = a.place;
-    if !a.due {
+    let Some(due) = a.due else {
         return Step {
             pool,
-            place,
+            place: a.place,
             at: a.at,
             filled: a.filled,
             shown: false,
         };
-    }
-    let lent = 2 * a.count;
-    let ran = run_due(pool, s.call, s.number, &answers[..lent], log, out);
-    let left = ran.pool;
+    };
+    let ran = run_due(pool, due, &answers[..2 * a.count], log, out);
+    let mut place = a.place;
     if !ran.shown {
-        let mut end = place;
-        end.over = true;
-        return Step {
-            pool: left,
-            place: end,
-            at: a.at,
-            filled: ran.filled,
-            shown: false,
-        };
+        place.over = true;
     }
     Step {
-        pool: left,
+        pool: ran.pool,
         place,
         at: a.at,
         filled: ran.filled,
-        shown: true,
+        shown: ran.shown,
     }
 }
 
@@ -162,20 +144,12 @@ pub fn last(pool: Pool, s: Place, answers: &[u64], log: &mut [u64], out: &mut [u
     requires { (s.count ≤ KEPT) × Buffers answers.now log.old out.old }
     ensures { Lasts pool s answers.now out.new result }
 {
-    if s.over {
-        return Ran {
+    match s.pending {
+        Some(due) if !s.over => run_due(pool, due, &answers[..2 * s.count], log, out),
+        _ => Ran {
             pool,
             filled: 0,
             shown: false,
-        };
+        },
     }
-    if !s.started {
-        return Ran {
-            pool,
-            filled: 0,
-            shown: false,
-        };
-    }
-    let lent = 2 * s.count;
-    run_due(pool, s.call, s.number, &answers[..lent], log, out)
 }

@@ -1,20 +1,18 @@
 -- The records that stand in a log: those that were written to it, and one after the other those that are left.
 use mathlib.Core.Path.{◌≡◌, refl, sym, ap, ◌∙◌}
 use mathlib.Core.List.{List, [], ◌∷◌, ◌++◌, append_assoc, append-nil}
-use Prim.Native.Nat.{ℕ, suc, ◌+◌, ◌-◌, ◌*◌, ◌≤◌, ◌<◌, ◌^◌}
+use Prim.Native.Nat.{ℕ, suc, ◌+◌, ◌-◌, ◌*◌, ◌≤◌, ◌<◌}
 use native.Mathlib.Omega.{arith}
-use lib.ListN.{length, drop, get_or, length-append}
+use lib.ListN.{length, drop, get_or}
 use lib.Seq.{drop-drop, get_or-drop}
 use Rattle.words.specs.Log.{cells, written}
 use Rattle.words.specs.declared.Record.{Record}
 use Rattle.trace.specs.Bounds.{longest_line}
-use Rattle.trace.specs.Form.{row, text, printed}
+use Rattle.trace.specs.Form.{printed}
 use Rattle.trace.specs.Put.{Put}
 use Rattle.trace.specs.declared.Line.{Line}
-use Rattle.trace.proofs.Decimal.{at-most_twenty}
-use Rattle.trace.proofs.Words.{length-word}
 use Rattle.trace.proofs.Put.{put_then, put-none, put_as}
-use Rattle.replay_lines.specs.Records.{printed_all, records_in, PutLine, PutRecords}
+use Rattle.replay_lines.specs.Records.{printed_all, records_in, PutRecords}
 
 records-cells : (rs : List Record) (l : List ℕ) → records_in (length rs) (cells rs ++ l) ≡ rs
 records-cells [] l = refl
@@ -24,11 +22,6 @@ records-cells (r ∷ rs) l = ap (λ (ss : List Record). r ∷ ss) (records-cells
 pub records-written : (l : List ℕ) (rs : List Record) → records_in (length rs) (written l 0 rs) ≡ rs
 unfolding written
 records-written l rs = records-cells rs (drop (4 * (0 + length rs)) l)
-
-pub length-printed : (l : Line) → l.first < 2 ^ 64 → l.second < 2 ^ 64 → l.third < 2 ^ 64 → length (printed l) ≤ longest_line
-unfolding printed row text
-length-printed l a b c =
-    simp length-append (omega (arith, length-word l.kind, at-most_twenty l.first a, at-most_twenty l.second b, at-most_twenty l.third c))
 
 -- what is put so far, and what is left
 pub record Sofar (log : List ℕ) (count : ℕ) (out₀ : List ℕ) (at : ℕ) (out : List ℕ) (i next : ℕ) : Type 0 where
@@ -56,18 +49,19 @@ module _ {log : List ℕ} {count : ℕ} {out₀ : List ℕ} {at : ℕ} {out : Li
 
   pub one_more : {out' : List ℕ} {next' : ℕ} (l : Line) → i < count
       → l ≡ record { kind = get_or log (4 * i) 0; first = get_or log (4 * i + 1) 0; second = get_or log (4 * i + 2) 0; third = get_or log (4 * i + 3) 0 }
-      → PutLine l out out' next next'
+      → Put out out' next next' (printed l)
+      → next' ≤ next + longest_line
       → Sofar log count out₀ at out' (i + 1) next'
-  one_more l h e w =
+  one_more l h e p n =
       let left = printed_all (records_in (count - (i + 1)) (drop (4 * (i + 1)) log)) in
       record {
         done = s.done ++ printed l;
-        puts = put_then s.puts w.puts;
+        puts = put_then s.puts p;
         rest = s.rest ∙ ap (λ (rs : List Record). s.done ++ printed_all rs) (next-record h)
             ∙ ap (λ (k : Line). s.done ++ (printed k ++ left)) (sym e)
             ∙ sym (append_assoc s.done (printed l) left);
         within = omega arith;
-        below = omega (arith, s.below, w.next);
+        below = omega (arith, s.below, n);
       }
 
   pub all-put : i ≡ count → PutRecords log count out₀ out at next

@@ -6,7 +6,6 @@ use Rattle.trace.specs.Bounds.{longest_line}
 use Rattle.trace.specs.Form.{printed}
 use Rattle.trace.specs.Kinds.{of_record}
 use Rattle.trace.specs.Put.{Put}
-use Rattle.trace.specs.declared.Line.{Line}
 
 -- each record on a line
 abbrev pub printed_all : List Record → List ℕ
@@ -20,10 +19,6 @@ first_of l = record { kind = get_or l 0 0; first = get_or l 1 0; second = get_or
 abbrev pub records_in : ℕ → List ℕ → List Record
 records_in zero l = []
 records_in (suc n) l = first_of l ∷ records_in n (drop 4 l)
-
-pub record PutLine (l : Line) (out out' : List ℕ) (at r : ℕ) : Type 0 where
-  pub puts : Put out out' at r (printed l)
-  pub next : r ≤ at + longest_line
 
 pub record PutRecords (log : List ℕ) (count : ℕ) (out out' : List ℕ) (at r : ℕ) : Type 0 where
   pub puts : Put out out' at r (printed_all (records_in count log))

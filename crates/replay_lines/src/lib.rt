@@ -4,41 +4,27 @@
 ghost use Rattle.std.specs.Prelude.{◌≡◌, ◌+◌, ◌*◌, ◌≤◌, length};
 ghost use Rattle.tables.specs.Outcomes.{numbers, is};
 ghost use Rattle.trace.specs.Bounds.{longest_line};
-ghost use Rattle.trace.specs.Form.{line};
-ghost use Rattle.replay_lines.specs.Records.{PutLine, PutRecords};
+ghost use Rattle.replay_lines.specs.Records.{PutRecords};
 ghost use Rattle.replay_lines.specs.Traced.{call_line, result_of, PutCall};
 
 use tables::Outcome;
 use trace::Line;
 
-// A line from a place of the buffer on; the place after it.
-fn put_line(kind: u64, first: u64, second: u64, third: u64, out: &mut [u8], at: usize) -> usize
-    requires { at + longest_line ≤ length out.old }
-    ensures { PutLine (line kind first second third) out.old out.new at result }
-{
-    let l = Line {
-        kind,
-        first,
-        second,
-        third,
-    };
-    l.put(out, at)
-}
-
+// kept: a log is a slice of numbers with a count of records beside it, as C lends it to `pool_open` and its like.
 // Each of the first `count` records, from a place of the buffer on; the place after them.
 pub fn put_records(log: &[u64], count: usize, out: &mut [u8], at: usize) -> usize
     requires { (4 * count ≤ length log.now) × (at + longest_line * count ≤ length out.old) }
     ensures { PutRecords log.now count out.old out.new at result }
 {
-    let mut i: usize = 0;
     let mut next = at;
-    while i < count {
-        let kind = 4 * i;
-        let first = kind + 1;
-        let second = kind + 2;
-        let code = kind + 3;
-        next = put_line(log[kind], log[first], log[second], log[code], out, next);
-        i += 1;
+    for i in 0..count {
+        let line = Line {
+            kind: log[4 * i],
+            first: log[4 * i + 1],
+            second: log[4 * i + 2],
+            third: log[4 * i + 3],
+        };
+        next = line.put(out, next);
     }
     next
 }
@@ -47,25 +33,13 @@ pub fn put_records(log: &[u64], count: usize, out: &mut [u8], at: usize) -> usiz
 fn call_line(l: Line) -> Line
     ensures { result ≡ call_line l }
 {
-    let kind = l.kind;
-    match kind {
-        Line::OPEN => Line {
-            kind: Line::OPEN,
-            first: l.first,
-            second: l.second,
-            third: l.third,
-        },
-        Line::MALLOC => Line {
-            kind: Line::MALLOC,
-            first: l.first,
-            second: l.second,
-            third: 0,
-        },
+    match l.kind {
+        Line::OPEN => l,
+        Line::MALLOC => Line { third: 0, ..l },
         Line::FREE => Line {
-            kind: Line::FREE,
-            first: l.first,
             second: 0,
             third: 0,
+            ..l
         },
         _ => Line {
             kind: Line::CLOSE,
@@ -93,8 +67,7 @@ fn result_line(outcome: Outcome) -> Line
 pub fn is_short(outcome: Outcome) -> bool
     ensures { result ≡ is 17 outcome }
 {
-    let numbers = outcome.numbers();
-    numbers.number == 17
+    matches!(outcome, Outcome::AnswersRanOut)
 }
 
 // The call, its records, its result.
@@ -103,7 +76,7 @@ pub fn put_call(call: Line, outcome: Outcome, log: &[u64], count: usize, out: &m
     ensures { PutCall call outcome log.now count out.old out.new result }
 {
     let first = call_line(call);
-    let next = put_line(first.kind, first.first, first.second, first.third, out, 0);
+    let next = first.put(out, 0);
     let end = put_records(log, count, out, next);
     let last = result_line(outcome);
     last.put(out, end)

@@ -10,7 +10,7 @@ use native.Mathlib.Numerals.{add-one}
 use borrow.Author.Tests.{ltb-true, ltb-false}
 use lib.Dec.{ltb}
 use lib.ListN.{length, take, get_or}
-use lib.Seq.{take-suc, take_all}
+use lib.Seq.{take-suc, take_all, length-take-le}
 use Rattle.lists.specs.Walks.{joined}
 use Rattle.lists.proofs.Walks.{joined-append}
 use Rattle.trace.specs.Put.{Put}
@@ -48,37 +48,42 @@ module _ {A : Type 0} (line : A → List ℕ) where
       ∙ joined-append line (take i l) (get_or l i d ∷ [])
       ∙ ap (λ (t : List ℕ). joined line (take i l) ++ t) (append-nil (line (get_or l i d))))
 
--- The invariant of `turns` turns over `l`: `out` is what `out₀` has become after `i` of them, and `next` the place after what is put.
-pub record Sofar {A : Type 0} (line : A → List ℕ) (most : ℕ) (l : List A) (turns : ℕ) (out₀ : List ℕ) (at : ℕ) (out : List ℕ) (i next : ℕ) : Type 0 where
+-- of cells those that are shown, where a count is not trusted
+pub shown-is : {A : Type 0} (line : A → List ℕ) (count n : ℕ) (cells : List A) → n ≡ min count (length cells) → joined line (take n cells) ≡ joined line (take count cells)
+shown-is line count n cells e = ap (λ (k : ℕ). joined line (take k cells)) e ∙ ap (joined line) (take_min count cells)
+
+pub shown-most : {A : Type 0} (most n : ℕ) (cells : List A) → n ≤ length cells → most * length (take n cells) ≤ most * length cells
+shown-most most n cells h = rw length-take-le (mul-le-mul_left most h)
+
+-- The invariant of a loop over `l`: `out` is what `out₀` has become after `i` turns, and `next` the place after what is put.
+pub record Sofar {A : Type 0} (line : A → List ℕ) (most : ℕ) (l : List A) (out₀ : List ℕ) (at : ℕ) (out : List ℕ) (i next : ℕ) : Type 0 where
   pub puts : Put out₀ out at next (joined line (take i l))
   pub below : next ≤ at + most * i
-  pub within : i ≤ turns
+  pub within : i ≤ length l
 
-pub none_yet : {A : Type 0} (line : A → List ℕ) (most : ℕ) (l : List A) (turns : ℕ) (out : List ℕ) (at : ℕ) → at ≤ length out → Sofar line most l turns out at out 0 at
-none_yet line most l turns out at h = record { puts = put-none out at at h refl; below = omega arith; within = omega arith }
+pub none_yet : {A : Type 0} (line : A → List ℕ) (most : ℕ) (l : List A) (out : List ℕ) (at : ℕ) → at ≤ length out → Sofar line most l out at out 0 at
+none_yet line most l out at h = record { puts = put-none out at at h refl; below = omega arith; within = omega arith }
 
-module _ {A : Type 0} {line : A → List ℕ} {most : ℕ} {l : List A} {turns : ℕ} {out₀ : List ℕ} {at : ℕ} {out : List ℕ} {i next : ℕ} (s : Sofar line most l turns out₀ at out i next) where
+module _ {A : Type 0} {line : A → List ℕ} {most : ℕ} {l : List A} {out₀ : List ℕ} {at : ℕ} {out : List ℕ} {i next : ℕ} (s : Sofar line most l out₀ at out i next) where
   -- a turn has its places
-  pub room : i < turns → at + most * turns ≤ length out₀ → next + most ≤ length out
+  pub room : i < length l → at + most * length l ≤ length out₀ → next + most ≤ length out
   room h g =
-      let k : i + 1 ≤ turns = omega arith in
+      let k : i + 1 ≤ length l = omega arith in
       omega (arith, s.below, put-length s.puts, mul-le-mul_left most k, mul-add most i 1)
 
-  pub one_more : {out' : List ℕ} {next' : ℕ} (d : A) → i < turns → turns ≤ length l → Puts most out out' next next' (line (get_or l i d))
-      → Sofar line most l turns out₀ at out' (i + 1) next'
-  one_more d h g p =
+  pub one_more : {out' : List ℕ} {next' : ℕ} (x d : A) → i < length l → x ≡ get_or l i d → Puts most out out' next next' (line x)
+      → Sofar line most l out₀ at out' (i + 1) next'
+  one_more x d h e p =
       record {
-        puts = put_as (joined-next line l i d (omega arith)) (put_then s.puts p.puts);
+        puts = put_as (ap (λ (y : A). joined line (take i l) ++ line y) e ∙ joined-next line l i d h) (put_then s.puts p.puts);
         below = omega (arith, s.below, p.next, mul-add most i 1);
         within = omega arith;
       }
 
-  -- a table of `cells` cells, whatever its count
-  pub all-put : (cells count : ℕ) → length l ≡ cells → turns ≡ min count cells → turns ≤ i → Puts (most * cells) out₀ out at next (joined line (take count l))
-  all-put cells count e f h =
-      let g : i ≡ min count (length l) = omega (arith, s.within) in
-      let k : i ≤ cells = omega (arith, s.within) in
+  pub all-put : length l ≤ i → Puts (most * length l) out₀ out at next (joined line l)
+  all-put h =
+      let e : i ≡ length l = omega (arith, s.within) in
       record {
-        puts = put_as (ap (λ (k : ℕ). joined line (take k l)) g ∙ ap (joined line) (take_min count l)) s.puts;
-        next = omega (arith, s.below, mul-le-mul_left most k);
+        puts = put_as (ap (joined line) (take_all i l h)) s.puts;
+        next = rw e at s.below;
       }

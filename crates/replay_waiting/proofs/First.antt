@@ -5,6 +5,7 @@ use mathlib.Core.List.{List, [], ◌∷◌, ◌++◌}
 use Prim.Native.Nat.{ℕ, ◌<◌}
 use native.Mathlib.Omega.{arith}
 use lib.ListN.{length, drop}
+use Rattle.std.specs.Prelude.{None}
 use Rattle.tables.specs.declared.Pool.{Pool}
 use Rattle.trace.specs.Chunks.{lines_from, reached}
 use Rattle.trace.specs.Form.{bad_line}
@@ -18,13 +19,13 @@ use Rattle.replay_answers.proofs.Sofar.{line-fed}
 use Rattle.replay_lines.specs.Traced.{is_open}
 use Rattle.replay_rules.specs.Replay.{replay_lines}
 use Rattle.replay_waiting.specs.Places.{waiting_at, reading_at, Stands, todo}
-use Rattle.replay_waiting.specs.Promises.{Stops, Advances}
+use Rattle.replay_waiting.specs.Promises.{reading, Stops, Advances}
 use Rattle.replay_waiting.specs.declared.Place.{Place}
 use Rattle.replay_waiting.specs.declared.Advanced.{Advanced}
-use Rattle.replay_waiting.proofs.Steps.{reading, keeps-none, todo-first, stop_goes, stop-advances}
+use Rattle.replay_waiting.proofs.Steps.{keeps-none, todo-first, stop_goes, stop-advances}
 
 module _ (s : Place) {chunk : List ℕ} {at : ℕ} {r : Reach} (d : Scanned r chunk at s.partial) (stands : Stands s)
-    (over : s.over ≡ false) (started : s.started ≡ false) (cells out : List ℕ) where
+    (over : s.over ≡ false) (started : s.pending ≡ None) (cells out : List ℕ) where
   -- the line does not end in the chunk
   pub first-open : at < length chunk → r ≡ reached at s.partial (drop at chunk) → r.ended ≡ false → Advances s chunk at cells cells out (reading r.at s.count (reading_at s r.partial s.line s.count))
   first-open h is e =

@@ -5,6 +5,7 @@ use mathlib.Core.List.{List, [], ◌++◌, append-nil}
 use Prim.Native.Nat.{ℕ, ◌+◌, ◌≤◌, ◌<◌}
 use native.Mathlib.Omega.{arith}
 use lib.ListN.{length, take, drop}
+use Rattle.std.specs.Prelude.{Some, None}
 use Rattle.tables.specs.declared.Pool.{Pool}
 use Rattle.trace.specs.Chunks.{lines_from}
 use Rattle.trace.specs.Form.{bad_line}
@@ -12,22 +13,20 @@ use Rattle.trace.proofs.Put.{put_front, put-length}
 use Rattle.replay_answers.specs.Promises.{KEPT, Keeps}
 use Rattle.replay_rules.specs.Replay.{replay_from, replay_lines}
 use Rattle.replay_waiting.specs.Places.{Stands, waiting_of, todo}
-use Rattle.replay_waiting.specs.Promises.{Stops, Goes, Advances}
+use Rattle.replay_waiting.specs.Promises.{reading, Stops, Goes, Advances}
+use Rattle.replay_waiting.specs.declared.Pending.{Pending}
 use Rattle.replay_waiting.specs.declared.Place.{Place}
 use Rattle.replay_waiting.specs.declared.Advanced.{Advanced}
-
-abbrev pub reading : ℕ → ℕ → Place → Advanced
-reading at count place = record { at = at; filled = 0; due = false; count = count; place = place }
 
 pub keeps-none : {cells xs : List ℕ} {count : ℕ} → Keeps cells count xs → Keeps cells 0 []
 keeps-none k = record { room = k.room; few = omega arith; front = refl }
 
 module _ (show : Pool → List ℕ) (p : Pool) (s : Place) (xs l : List ℕ) (over : s.over ≡ false) where
-  pub todo-first : s.started ≡ false → todo show p s xs l ≡ replay_lines show p (lines_from s.partial l)
+  pub todo-first : s.pending ≡ None → todo show p s xs l ≡ replay_lines show p (lines_from s.partial l)
   unfolding todo
   todo-first e = rw (over, e)
 
-  pub todo-waiting : s.started ≡ true → todo show p s xs l ≡ replay_from show p (waiting_of s xs) s.line (lines_from s.partial l)
+  pub todo-waiting : {w : Pending} → s.pending ≡ Some w → todo show p s xs l ≡ replay_from show p (waiting_of w xs) s.line (lines_from s.partial l)
   unfolding todo
   todo-waiting e = rw (over, e)
 
@@ -70,7 +69,7 @@ module _ (s : Place) (chunk : List ℕ) (at : ℕ) (cells out : List ℕ) where
       let j : a.count ≡ count = ap (λ (x : Advanced). x.count) w.is in
       let d : a.place.count ≡ count = ap (λ (x : Advanced). x.place.count) w.is in
       let o : a.place.over ≡ true = ap (λ (x : Advanced). x.place.over) w.is in
-      let u : a.due ≡ false = ap (λ (x : Advanced). x.due) w.is in
+      let u : a.due ≡ None = ap (λ (x : Advanced). x.due) w.is in
       record {
         within = omega arith;
         moved = λ q. omega (arith, m q);

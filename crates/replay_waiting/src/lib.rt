@@ -5,20 +5,26 @@ ghost use Rattle.std.specs.Prelude.{◌≡◌, ◌+◌, ◌-◌, ◌*◌, ◌<�
 ghost use Rattle.trace.specs.Bounds.{longest_line};
 ghost use Rattle.replay_answers.specs.Promises.{KEPT};
 ghost use Rattle.replay_waiting.specs.Places.{first_place, waiting_at, reading_at, is_ended, Stands};
-ghost use Rattle.replay_waiting.specs.Promises.{Stops, Begins, Meets, GoesOn, Advances};
+ghost use Rattle.replay_waiting.specs.Promises.{reading, Stops, Begins, Meets, GoesOn, Advances};
 
 use replay_answers::{Stop, gather};
 use trace::{Line, Partial, Reading, put_bad};
 
-// What is read of line `line`; the call that waits, its line number, and how many answers are lent to it; whether there is one, and whether the run is over.
+// A call that waits for its answers, and the number of its line.
+#[derive(Clone, Copy)]
+pub struct Pending {
+    pub call: Line,
+    pub number: u64,
+}
+
+// What is read of line `line`; the call that waits, if there is one, and how many answers are lent to it; whether the run is over.
+// kept: the answers lie in a buffer of the caller's, since a place is copied at each turn, and they are 32 KB.
 #[derive(Clone, Copy)]
 pub struct Place {
     pub partial: Partial,
     pub line: u64,
-    pub call: Line,
-    pub number: u64,
+    pub pending: Option<Pending>,
     pub count: usize,
-    pub started: bool,
     pub over: bool,
 }
 
@@ -27,17 +33,25 @@ pub struct Place {
 pub struct Advanced {
     pub at: usize,
     pub filled: usize,
-    pub due: bool,
+    pub due: Option<Pending>,
     pub count: usize,
     pub place: Place,
 }
 
-const NO_CALL: Line = Line {
-    kind: 0,
-    first: 0,
-    second: 0,
-    third: 0,
-};
+impl Advanced {
+    // Nothing is printed, and no call is due.
+    fn reading(at: usize, count: usize, place: Place) -> Self
+        ensures { result ≡ reading at count place }
+    {
+        Advanced {
+            at,
+            filled: 0,
+            due: None,
+            count,
+            place,
+        }
+    }
+}
 
 impl Place {
     // Before the first line.
@@ -47,10 +61,8 @@ impl Place {
         Place {
             partial: Partial::fresh(),
             line: 1,
-            call: NO_CALL,
-            number: 0,
+            pending: None,
             count: 0,
-            started: false,
             over: false,
         }
     }
@@ -63,10 +75,8 @@ impl Place {
         Place {
             partial: Partial::fresh(),
             line: number + 1,
-            call,
-            number,
+            pending: Some(Pending { call, number }),
             count: 0,
-            started: true,
             over: false,
         }
     }
@@ -75,26 +85,18 @@ impl Place {
     pub fn is_ended(self) -> bool
         ensures { result ≡ is_ended self }
     {
-        if self.over {
-            return true;
-        }
-        let partial = self.partial;
-        partial.is_fresh()
+        self.over || self.partial.is_fresh()
     }
 
     // The same call waits, while line `line` is being read.
     fn reading(self, partial: Partial, line: u64, count: usize) -> Self
         ensures { result ≡ reading_at self partial line count }
     {
-        let call = self.call;
         Place {
             partial,
             line,
-            call,
-            number: self.number,
             count,
-            started: self.started,
-            over: self.over,
+            ..self
         }
     }
 }
@@ -108,15 +110,13 @@ fn stop_at(at: usize, line: u64, count: usize, out: &mut [u8]) -> Advanced
     Advanced {
         at,
         filled,
-        due: false,
+        due: None,
         count,
         place: Place {
             partial: Partial::fresh(),
             line,
-            call: NO_CALL,
-            number: 0,
+            pending: None,
             count,
-            started: true,
             over: true,
         },
     }
@@ -127,38 +127,22 @@ fn begin(s: Place, chunk: &[u8], at: usize, out: &mut [u8]) -> Advanced
     requires { (at < length chunk.now) × (Stands s × (longest_line ≤ length out.old)) }
     ensures { Begins s chunk.now at out.new result }
 {
-    let partial = s.partial;
-    let r = partial.scan(chunk, at);
-    let q = r.partial;
+    let r = s.partial.scan(chunk, at);
     if !r.ended {
-        return Advanced {
-            at: r.at,
-            filled: 0,
-            due: false,
-            count: s.count,
-            place: s.reading(q, s.line, s.count),
-        };
+        return Advanced::reading(r.at, s.count, s.reading(r.partial, s.line, s.count));
     }
-    let reading = q.finish();
-    let Reading::Good(l) = reading else {
-        return stop_at(r.at, 1, s.count, out);
-    };
-    if l.kind != Line::OPEN {
-        return stop_at(r.at, 1, s.count, out);
-    }
-    Advanced {
-        at: r.at,
-        filled: 0,
-        due: false,
-        count: 0,
-        place: Place::waiting(l, 1),
+    match r.partial.finish() {
+        Reading::Good(l) if l.kind == Line::OPEN => {
+            Advanced::reading(r.at, 0, Place::waiting(l, 1))
+        }
+        _ => stop_at(r.at, 1, s.count, out),
     }
 }
 
 // A call line: the waiting call is due, and this one waits.
-fn meet(l: Line, at: usize, line: u64, count: usize, out: &mut [u8]) -> Advanced
+fn meet(pending: Pending, l: Line, at: usize, line: u64, count: usize, out: &mut [u8]) -> Advanced
     requires { (longest_line ≤ length out.old) × (line + 1 < 2 ^ 64) }
-    ensures { Meets l at line count out.old out.new result }
+    ensures { Meets pending l at line count out.old out.new result }
 {
     if l.kind == Line::OPEN {
         return stop_at(at, line, count, out);
@@ -166,32 +150,30 @@ fn meet(l: Line, at: usize, line: u64, count: usize, out: &mut [u8]) -> Advanced
     Advanced {
         at,
         filled: 0,
-        due: true,
+        due: Some(pending),
         count,
         place: Place::waiting(l, line),
     }
 }
 
-// The lines up to the next call.
-fn go_on(s: Place, chunk: &[u8], at: usize, answers: &mut [u64], out: &mut [u8]) -> Advanced
+// The lines up to the next call, while one waits.
+fn go_on(
+    s: Place,
+    pending: Pending,
+    chunk: &[u8],
+    at: usize,
+    answers: &mut [u64],
+    out: &mut [u8],
+) -> Advanced
     requires at_in_bounds { (at < length chunk.now) × (s.line + (length chunk.now - at) < 2 ^ 64) }
     requires stands { Stands s × ((length answers.old ≡ 2 * KEPT) × (longest_line ≤ length out.old)) }
-    ensures { GoesOn s chunk.now at
+    ensures { GoesOn s pending chunk.now at
         answers.old answers.new out.new result }
 {
-    let partial = s.partial;
-    let g = gather(partial, s.line, chunk, at, answers, s.count);
-    let stop = g.stop;
-    let next = g.partial;
-    match stop {
-        Stop::More => Advanced {
-            at: g.at,
-            filled: 0,
-            due: false,
-            count: g.count,
-            place: s.reading(next, g.line, g.count),
-        },
-        Stop::Call(l) => meet(l, g.at, g.line, g.count, out),
+    let g = gather(s.partial, s.line, chunk, at, answers, s.count);
+    match g.stop {
+        Stop::More => Advanced::reading(g.at, g.count, s.reading(g.partial, g.line, g.count)),
+        Stop::Call(l) => meet(pending, l, g.at, g.line, g.count, out),
         Stop::Malformed => stop_at(g.at, g.line, g.count, out),
     }
 }
@@ -204,16 +186,10 @@ pub fn advance(s: Place, chunk: &[u8], at: usize, answers: &mut [u64], out: &mut
         answers.old answers.new out.new result }
 {
     if s.over {
-        return Advanced {
-            at: chunk.len(),
-            filled: 0,
-            due: false,
-            count: s.count,
-            place: s,
-        };
+        return Advanced::reading(chunk.len(), s.count, s);
     }
-    if s.started {
-        return go_on(s, chunk, at, answers, out);
+    match s.pending {
+        Some(pending) => go_on(s, pending, chunk, at, answers, out),
+        None => begin(s, chunk, at, out),
     }
-    begin(s, chunk, at, out)
 }

@@ -1,15 +1,16 @@
 -- Texts that fit and texts that don't. One that fits is put whole, and another goes behind it; with one that doesn't the buffer is full, and nothing behind it
 -- matters.
-use mathlib.Core.Path.{◌≡◌, sym, ap, ◌∙◌}
+use mathlib.Core.Path.{◌≡◌, refl, sym, ap, ◌∙◌}
 use mathlib.Core.Bool.{Bool, true, false}
 use mathlib.Core.List.{List, ◌++◌, append_assoc}
-use Prim.Native.Nat.{ℕ, ◌+◌, ◌<◌, ◌≤◌}
+use Prim.Native.Nat.{ℕ, ◌+◌, ◌-◌, ◌<◌, ◌≤◌, min}
 use native.Mathlib.Omega.{arith}
-use borrow.Author.Tests.{le-leb, lt-leb, leb-true, leb-false}
+use borrow.Author.Tests.{eq-eqb, ne_eqb, le-leb, lt-leb, leb-true, leb-false}
+use lib.Dec.{leb, eqb}
 use lib.ListN.{length, take, drop, length-append, take-append-drop, length-drop}
 use lib.Seq.{length-take-le, take_all, take-append-le}
 use Rattle.trace.specs.Put.{placed, Put}
-use Rattle.trace.proofs.Put.{put-length, put_then}
+use Rattle.trace.proofs.Put.{put-length, put_then, put_as}
 use Rattle.replay_rules.specs.Replay.{replayed}
 use Rattle.replay_whole.specs.Promises.{Fits, Replays, Adds}
 use Rattle.replay_whole.specs.declared.Replayed.{Replayed}
@@ -85,6 +86,22 @@ module _ {piece out out' : List ℕ} {at n : ℕ} where
             let j : (text ++ take room piece) ++ rest ≡ text ++ piece = append_assoc text (take room piece) rest ∙ ap (λ (x : List ℕ). text ++ x) (take-append-drop room piece) in
             fits_as (fits_cut q full rest (omega (arith, length-drop room piece))) j;
       }
+
+-- as much of a piece as fits
+pub adds-fitting : {piece out out' : List ℕ} {at r : ℕ} (n : ℕ) → n ≡ min (length piece) (length out - at) → at ≤ length out → Put out out' at r (take n piece)
+    → Adds piece at out out' (record { written = r; whole = eqb n (length piece) })
+adds-fitting {piece} {out} {out'} {at} {r} n e h p = go (leb (length piece) (length out - at)) refl
+  where
+    go : (b : Bool) → leb (length piece) (length out - at) ≡ b → Adds piece at out out' (record { written = r; whole = eqb n (length piece) })
+    go true b =
+        let k : length piece ≤ length out - at = leb-true _ _ b in
+        let m : n ≡ length piece = omega arith in
+        rw (eq-eqb n (length piece) m) (adds-whole (put_as (take_all n piece (omega arith)) p))
+    go false b =
+        let k : length out - at < length piece = leb-false _ _ b in
+        let m : n ≡ length out - at = omega arith in
+        let l : n < length piece = omega arith in
+        rw (ne_eqb n (length piece) (λ z. omega arith)) (adds_cut n p (omega arith) l)
 
 module _ {piece out m : List ℕ} {at : ℕ} {d : Replayed} (a : Adds piece at out m d) where
   pub adds_as : {other : List ℕ} → piece ≡ other → Adds other at out m d

@@ -13,6 +13,7 @@ use replay_waiting::Place;
 use trace::put_bytes;
 
 // How many bytes are written, and whether these are all.
+// kept: `replay` cannot fail, and the bytes that were written are counted either way.
 #[derive(Clone, Copy)]
 pub struct Replayed {
     pub written: usize,
@@ -24,16 +25,10 @@ fn add(piece: &[u8], written: usize, out: &mut [u8]) -> Replayed
     requires { written ≤ length out.old }
     ensures { Adds piece.now written out.old out.new result }
 {
-    let room = out.len() - written;
-    if piece.len() <= room {
-        return Replayed {
-            written: put_bytes(out, written, piece),
-            whole: true,
-        };
-    }
+    let fitting = piece.len().min(out.len() - written);
     Replayed {
-        written: put_bytes(out, written, &piece[..room]),
-        whole: false,
+        written: put_bytes(out, written, &piece[..fitting]),
+        whole: fitting == piece.len(),
     }
 }
 
@@ -52,8 +47,7 @@ fn end(
     ensures { Ends pool s answers.now written out.old out.new result }
 {
     let r = last(pool, s, answers, log, piece);
-    let filled = r.filled;
-    add(&piece[..filled], written, out)
+    add(&piece[..r.filled], written, out)
 }
 
 // The end of the input. A last line that lacks its line feed counts: one is read behind it.
@@ -74,14 +68,11 @@ fn finish(
         return end(pool, s, answers, log, piece, written, out);
     }
     let r = turn(pool, s, b"\n", 0, answers, log, piece);
-    let left = r.pool;
-    let place = r.place;
-    let filled = r.filled;
-    let done = add(&piece[..filled], written, out);
+    let done = add(&piece[..r.filled], written, out);
     if !done.whole {
         return done;
     }
-    end(left, place, answers, log, piece, done.written, out)
+    end(r.pool, r.place, answers, log, piece, done.written, out)
 }
 
 // What replay prints for the input, as far as it fits: the run stops where something does not.
@@ -93,19 +84,16 @@ pub fn replay(input: &[u8], out: &mut [u8]) -> Replayed
     let mut piece = replay_chunks::text_buffer();
     let mut pool = replay_chunks::closed();
     let mut place = Place::first();
-    let mut at: usize = 0;
-    let mut written: usize = 0;
+    let mut at = 0;
+    let mut written = 0;
     while at < input.len() {
         let r = turn(pool, place, input, at, &mut answers, &mut log, &mut piece);
-        let filled = r.filled;
-        let done = add(&piece[..filled], written, out);
+        let done = add(&piece[..r.filled], written, out);
         if !done.whole {
             return done;
         }
-        let left = r.pool;
-        let next = r.place;
-        pool = left;
-        place = next;
+        pool = r.pool;
+        place = r.place;
         at = r.at;
         written = done.written;
     }

@@ -2,7 +2,7 @@
 use mathlib.Core.Path.{◌≡◌, refl, sym, ap, ◌∙◌}
 use mathlib.Core.List.{List, [], ◌∷◌, ◌++◌, map}
 use mathlib.Core.Bool.{false, cond, ◌&&◌}
-use Prim.Native.Nat.{ℕ, ◌+◌, ◌-◌, ◌*◌, ◌%◌, ◌^◌, ◌≤◌}
+use Prim.Native.Nat.{ℕ, ◌+◌, ◌-◌, ◌*◌, ◌^◌, ◌≤◌}
 use native.Mathlib.Omega.{arith}
 use borrow.Author.Tests.{ne_eqb, leb-true}
 use lib.Dec.{ltb, leb, eqb}
@@ -10,7 +10,7 @@ use Rattle.lists.specs.Walks.{joined}
 use Rattle.lists.proofs.Tests.{both}
 use Rattle.trace.specs.Reads.{onto, is_digit, reading}
 use Rattle.trace.specs.Lines.{rows, lines_of}
-use Rattle.trace.specs.Machine.{whole, is_letter, kind_of, parted, after_letters, after_tab, after_digits, fresh, is_fresh, after, run, line_at, read_line}
+use Rattle.trace.specs.Machine.{is_letter, kind_of, parted, after_letters, after_tab, after_digits, fresh, is_fresh, after, run, line_at, read_line}
 use Rattle.trace.specs.Chunks.{ending, lines_from, ended_in, left_of, chunked}
 use Rattle.trace.specs.declared.Reading.{Reading}
 use Rattle.trace.specs.declared.Before.{Before}
@@ -21,17 +21,17 @@ use Rattle.trace.proofs.Cases.{by-test, on}
 use Rattle.trace.proofs.Fields.{reading-is}
 
 -- a line of which a byte was read has begun
-begun_letters : (high low b : ℕ) → is_fresh (after_letters high low b) ≡ false
+begun_letters : (w b : ℕ) → is_fresh (after_letters w b) ≡ false
 unfolding after_letters
-begun_letters high low b =
+begun_letters w b =
     by-test (λ p. is_fresh p ≡ false) (eqb b 9)
-    (λ t. by-test (λ p. is_fresh p ≡ false) (eqb (kind_of (whole high low)) 0) (λ u. refl) (λ u. refl))
+    (λ t. by-test (λ p. is_fresh p ≡ false) (eqb (kind_of w) 0) (λ u. refl) (λ u. refl))
     (λ t.
-    by-test (λ p. is_fresh p ≡ false) (is_letter b && ltb high (2 ^ 56))
+    by-test (λ p. is_fresh p ≡ false) (is_letter b && ltb w (2 ^ 120))
     (λ u.
-    let is = both (leb 97 b) (leb b 122) (both (is_letter b) (ltb high (2 ^ 56)) u).0 in
+    let is = both (leb 97 b) (leb b 122) (both (is_letter b) (ltb w (2 ^ 120)) u).0 in
     let above : 97 ≤ b = leb-true 97 b is.0 in
-    ne_eqb (low % 2 ^ 56 * 256 + b) 0 (omega arith))
+    ne_eqb (w * 256 + b) 0 (omega arith))
     (λ u. refl))
 
 begun-parted : (f : Before) (n : ℕ) → is_fresh (parted f n) ≡ false
@@ -41,7 +41,7 @@ begun-parted (Second k a b) n = refl
 
 begun-line : (p : Partial) (b : ℕ) → is_fresh (after p b) ≡ false
 unfolding after_tab after_digits
-begun-line (Letters high low) b = begun_letters high low b
+begun-line (Letters w) b = begun_letters w b
 begun-line (Tab f) b = by-test (λ p. is_fresh p ≡ false) (is_digit b) (λ t. refl) (λ t. refl)
 begun-line (Digits f n) b =
     by-test (λ p. is_fresh p ≡ false) (eqb b 9) (λ t. begun-parted f n)

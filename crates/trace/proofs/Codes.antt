@@ -1,19 +1,21 @@
 -- The number that a word's letters are in base 256 leads to the word's kind, and no other number to any.
 use mathlib.Core.Path.{◌≡◌, refl, sym, ap, ◌∙◌}
-use mathlib.Core.Bool.{Bool, true, false, true≢false}
+use mathlib.Core.Bool.{Bool, true, false, cond, not}
 use mathlib.Core.List.{List, [], ◌∷◌, map}
-use Prim.Native.Nat.{ℕ, ◌-◌, ◌/◌, ◌%◌, ◌<◌, ◌≤◌, ◌^◌}
+use Prim.Native.Nat.{ℕ, suc, ◌+◌, ◌-◌, ◌^◌, ◌≤◌}
 use native.Mathlib.Omega.{arith}
-use native.Mathlib.Decide.{ℕ_discrete}
-use borrow.Author.Tests.{eq-eqb, ne_eqb, eqb-true}
-use lib.Dec.{eqb}
-use lib.ListN.{get_or, get_or-map}
-use Rattle.lists.specs.Tests.{All, Member, every, any, filter}
-use Rattle.lists.proofs.Every.{every-all}
-use Rattle.lists.proofs.Maps.{member-map}
-use Rattle.lists.proofs.Members.{member-all, member-at, filter-member}
+use borrow.Author.Tests.{lt-ltb, le-ltb, ne_eqb, eqb-true, eqb-false, ltb-true, ltb-false}
+use lib.Dec.{ltb, eqb}
+use lib.ListN.{length, get_or, get_or-map, length-map}
+use Rattle.std.specs.Prelude.{Option, Some, None, position}
+use Rattle.std.specs.Option.{option_map}
+use Rattle.std.specs.List.{position_or_len}
+use Rattle.std.specs.Int.{from_be_bytes, w128}
 use Rattle.trace.specs.Form.{words, word, last_kind}
-use Rattle.trace.specs.Machine.{packed, whole, codes, kind_of}
+use Rattle.trace.specs.Reads.{counted}
+use Rattle.trace.specs.Machine.{packed, codes, known, fitting, kind_of}
+use Rattle.trace.specs.declared.TheConstants.{WORDS}
+use Rattle.trace.proofs.Cases.{by-test, on}
 use Rattle.trace.proofs.Counted.{counted-within, counted-passes}
 use Rattle.trace.proofs.Words.{word-from-one}
 
@@ -32,55 +34,65 @@ kind_of-code n h =
     ∙ get_or-map (packed 0) words (k - 1) []
     ∙ ap (packed 0) (sym (word-from-one k (kind_of-within n h).0))
 
-kind_of-member : (n : ℕ) → (kind_of n ≡ 0 → ⊥) → Member n codes
-kind_of-member n h =
-    let r = kind_of-within n h in
-    rw (kind_of-at n h) (member-at codes (kind_of n - 1) 0 (omega arith))
+ltb-more : (n m : ℕ) → ltb (1 + n) (suc m) ≡ ltb n m
+ltb-more n m = go (ltb n m) refl
+  where
+    go : (t : Bool) → ltb n m ≡ t → ltb (1 + n) (suc m) ≡ t
+    go true e = lt-ltb (1 + n) (suc m) (omega (arith, ltb-true n m e))
+    go false e = le-ltb (1 + n) (suc m) (omega (arith, ltb-false n m e))
 
--- what is none of the keys of a match, as the prover says it
-abbrev pub NoneOf : Type 0 → ℕ → List ℕ → Type 0
-NoneOf A n [] = A
-NoneOf A n (c ∷ cs) = NoneOf (A × (n ≡ c → ⊥)) n cs
+-- what is counted stands at the first place that passes
+counted-place : {A : Type 0} (p : A → Bool) (i : ℕ) (xs : List A)
+    → counted p i xs ≡ cond (ltb (position_or_len p xs) (length xs)) (i + position_or_len p xs) 0
+counted-place p i [] = refl
+counted-place p i (x ∷ xs) =
+    let n = position_or_len p xs in
+    on (λ t. cond t i (counted p (i + 1) xs) ≡ cond (ltb (cond (not t) (1 + n) 0) (suc (length xs))) (i + cond (not t) (1 + n) 0) 0) (p x)
+    (rw (lt-ltb 0 (suc (length xs)) (omega arith)) (omega arith))
+    (rw ltb-more (counted-place p (i + 1) xs ∙ ap (λ (k : ℕ). cond (ltb n (length xs)) k 0) (omega arith)))
 
-none_of : (A : Type 0) (n : ℕ) (cs : List ℕ) → NoneOf A n cs → A × All (λ c. n ≡ c → ⊥) cs
-none_of A n [] a = (a, tt)
-none_of A n (c ∷ cs) a = let r = none_of (A × (n ≡ c → ⊥)) n cs a in (r.0.0, (r.0.1, r.1))
+pub known-Some : {k n : ℕ} → Some k ≡ known n → (n ≡ k) × (k ≡ 0 → ⊥)
+known-Some {k} {n} e =
+    by-test (λ r. Some k ≡ r → (n ≡ k) × (k ≡ 0 → ⊥)) (eqb n 0)
+    (λ t g. absurd (let z : ◌≡◌ {A = ℕ} 0 1 = cc in omega arith))
+    (λ t g. let is : n ≡ k = cc in let some = eqb-false n 0 t in (is, λ z. omega (arith, some)))
+    e
 
--- the codes that have the digits `high` before their last eight, and these
-abbrev under : ℕ → List ℕ
-under high = filter (λ c. eqb (c / 2 ^ 64) high) codes
+pub known-None : {n : ℕ} → None ≡ known n → n ≡ 0
+known-None {n} e =
+    by-test (λ r. None ≡ r → n ≡ 0) (eqb n 0) (λ t g. eqb-true n 0 t) (λ t g. absurd (let z : ◌≡◌ {A = ℕ} 0 1 = cc in omega arith)) e
 
-abbrev lows : ℕ → List ℕ
-lows high = map (λ c. c % 2 ^ 64) (under high)
+pub fitting-Some : {k n : ℕ} → Some k ≡ fitting n → (n ≡ k) × (ltb k (2 ^ 64) ≡ true)
+fitting-Some {k} {n} e =
+    by-test (λ r. Some k ≡ r → (n ≡ k) × (ltb k (2 ^ 64) ≡ true)) (ltb n (2 ^ 64))
+    (λ t g. let is : n ≡ k = cc in (is, rw is at t))
+    (λ t g. absurd (let z : ◌≡◌ {A = ℕ} 0 1 = cc in omega arith))
+    e
 
-not-any : (n : ℕ) (cs : List ℕ) → All (λ c. n ≡ c → ⊥) cs → any (eqb n) cs ≡ false
-not-any n [] a = refl
-not-any n (c ∷ cs) a = rw (ne_eqb n c a.0) (not-any n cs a.1)
+pub fitting-None : (n : ℕ) → None ≡ fitting n → ltb n (2 ^ 64) ≡ false
+fitting-None n e =
+    by-test (λ r. None ≡ r → ltb n (2 ^ 64) ≡ false) (ltb n (2 ^ 64)) (λ t g. absurd (let z : ◌≡◌ {A = ℕ} 0 1 = cc in omega arith)) (λ t g. t) e
 
-module _ (high low : ℕ) (fits : low < 2 ^ 64) where
-  top : whole high low / 2 ^ 64 ≡ high
-  top = omega arith
+-- the rows of the code's table are the codes
+rows : map (from_be_bytes w128) WORDS ≡ codes
+rows = refl
 
-  -- where the last eight digits are those of no code that has `high` before them
-  pub other_low : NoneOf (Unit {0}) low (lows high) → kind_of (whole high low) ≡ 0
-  other_low h =
-      let n = whole high low in
-      elim (ℕ_discrete (kind_of n) 0) [
-        | yes e ↦ e
-        | no d ↦
-            let m = filter-member (λ c. eqb (c / 2 ^ 64) high) n codes (kind_of-member n d) (eq-eqb (n / 2 ^ 64) high top) in
-            let is = member-map (λ c. c % 2 ^ 64) n (under high) m in
-            absurd (member-all (λ c. low ≡ c → ⊥) (n % 2 ^ 64) (lows high) is (none_of (Unit {0}) low (lows high) h).1 (omega arith))
-      ]
+place-map : {A B : Type 0} (p : B → Bool) (f : A → B) (xs : List A) → position_or_len (λ x. p (f x)) xs ≡ position_or_len p (map f xs)
+place-map p f [] = refl
+place-map p f (x ∷ xs) = ap (λ (n : ℕ). cond (not (p (f x))) (1 + n) 0) (place-map p f xs)
 
-  -- where those before them are no code's
-  pub other_high : (highs : List ℕ) → every (λ c. any (eqb (c / 2 ^ 64)) highs) codes ≡ true → NoneOf (Unit {0}) high highs → kind_of (whole high low) ≡ 0
-  other_high highs all h =
-      let n = whole high low in
-      elim (ℕ_discrete (kind_of n) 0) [
-        | yes e ↦ e
-        | no d ↦
-            let p : ℕ → Bool = λ c. any (eqb (c / 2 ^ 64)) highs in
-            let t = member-all (λ c. p c ≡ true) n codes (kind_of-member n d) (every-all p (λ c. p c ≡ true) (λ c t. t) codes all) in
-            absurd (true≢false (sym t ∙ rw top (not-any high highs (none_of (Unit {0}) high highs h).1)))
-      ]
+position-map : {A B : Type 0} (p : B → Bool) (f : A → B) (xs : List A) → position (λ x. p (f x)) xs ≡ position p (map f xs)
+position-map p f xs = rw (place-map p f xs, ← length-map xs f)
+
+counted-position : {A : Type 0} (p : A → Bool) (xs : List A) → option_map (λ k. k + 1) (position p xs) ≡ known (counted p 1 xs)
+counted-position p xs =
+    let n = position_or_len p xs in
+    rw counted-place
+    (on (λ t. option_map (λ k. k + 1) (cond t (Some n) None) ≡ known (cond t (1 + n) 0)) (ltb n (length xs))
+    (simp (ne_eqb (1 + n) 0 (omega arith)) (ap Some (omega arith)))
+    refl)
+
+pub known_placed : (n : ℕ) (r : Option ℕ) → r ≡ position (λ row. eqb n (from_be_bytes w128 row)) WORDS → option_map (λ k. k + 1) r ≡ known (kind_of n)
+unfolding kind_of
+known_placed n r e =
+    ap (option_map (λ k. k + 1)) (e ∙ position-map (eqb n) (from_be_bytes w128) WORDS ∙ ap (position (eqb n)) rows) ∙ counted-position (eqb n) codes

@@ -13,7 +13,6 @@ use Rattle.trace.specs.Form.{word, last_kind, decimal, row, text_of, Proper, Rea
 use Rattle.trace.specs.Reads.{is_digit}
 use Rattle.trace.specs.Machine.{
   packed,
-  whole,
   kind_of,
   is_letter,
   after_letters,
@@ -83,31 +82,27 @@ Within (First k a) = ((1 ≤ k) × (k ≤ last_kind)) × (a < 2 ^ 64)
 Within (Second k a b) = ((1 ≤ k) × (k ≤ last_kind)) × ((a < 2 ^ 64) × (b < 2 ^ 64))
 
 abbrev Means : Partial → List ℕ → Type 0
-Means (Letters high low) l = l ≡ letters (whole high low)
+Means (Letters w) l = l ≡ letters w
 Means (Tab f) l = Within f × (l ≡ text_before f)
 Means (Digits f n) l = (Within f × (n < 2 ^ 64)) × (l ≡ text_before f ++ decimal n)
 Means Broken l = Unit {0}
 
-letters_means : (high low b : ℕ) (l : List ℕ) → l ≡ letters (whole high low) → Means (after_letters high low b) (l ++ (b ∷ []))
+letters_means : (w b : ℕ) (l : List ℕ) → l ≡ letters w → Means (after_letters w b) (l ++ (b ∷ []))
 unfolding after_letters
-letters_means high low b l m =
+letters_means w b l m =
     by-test (λ p. Means p (l ++ (b ∷ []))) (eqb b 9)
     (λ t.
     by-test (λ p. Means p (l ++ (b ∷ []))) (eqb (kind_of w) 0)
     (λ u. tt)
     (λ u. (kind_of-within w (eqb-false (kind_of w) 0 u), rw (m, kind_spelled w (eqb-false (kind_of w) 0 u), eqb-true b 9 t))))
     (λ t.
-    by-test (λ p. Means p (l ++ (b ∷ []))) (is_letter b && ltb high (2 ^ 56))
+    by-test (λ p. Means p (l ++ (b ∷ []))) (is_letter b && ltb w (2 ^ 120))
     (λ u.
-    let is = both (leb 97 b) (leb b 122) (both (is_letter b) (ltb high (2 ^ 56)) u).0 in
+    let is = both (leb 97 b) (leb b 122) (both (is_letter b) (ltb w (2 ^ 120)) u).0 in
     let above : 97 ≤ b = leb-true 97 b is.0 in
     let below : b ≤ 122 = leb-true b 122 is.1 in
-    let e : whole (high * 256 + low / 2 ^ 56) (low % 2 ^ 56 * 256 + b) ≡ w * 256 + b = omega arith in
-    rw (m, e) (sym (letter w b (omega arith) (omega arith))))
+    rw m (sym (letter w b (omega arith) (omega arith))))
     (λ u. tt))
-  where
-    w : ℕ
-    w = whole high low
 
 tab_means : (f : Before) (b : ℕ) (l : List ℕ) → Means (Tab f) l → Means (after_tab f b) (l ++ (b ∷ []))
 unfolding after_tab
@@ -144,7 +139,7 @@ digits_means f n b l m =
     (λ u. tt))
 
 means : (p : Partial) (b : ℕ) (l : List ℕ) → Means p l → Means (after p b) (l ++ (b ∷ []))
-means (Letters high low) b l m = letters_means high low b l m
+means (Letters w) b l m = letters_means w b l m
 means (Tab f) b l m = tab_means f b l m
 means (Digits f n) b l m = digits_means f n b l m
 means Broken b l m = tt
@@ -158,7 +153,7 @@ never e = absurd (let z : ◌≡◌ {A = ℕ} 0 1 = cc in omega arith)
 
 line_means : (p : Partial) (bytes : List ℕ) (l : Line) → Means p bytes → line_at p ≡ Good l → Proper l × (bytes ≡ text_of l)
 unfolding row text_of
-line_means (Letters high low) bytes l m e = never e
+line_means (Letters w) bytes l m e = never e
 line_means (Tab f) bytes l m e = never e
 line_means (Digits (Kind k) n) bytes l m e = never e
 line_means (Digits (First k a) n) bytes l m e = never e

@@ -6,6 +6,7 @@ use Prim.Native.Nat.{ℕ, zero, suc, ◌+◌, ◌-◌, ◌*◌, ◌/◌, ◌%◌
 use native.Mathlib.Omega.{arith}
 use borrow.Author.Tests.{lt-ltb, le-leb, ne_eqb, eqb-true, ltb-true, ltb-false}
 use lib.Dec.{ltb, eqb}
+use Rattle.std.specs.Prelude.{fold}
 use Rattle.trace.specs.Form.{word, last_kind, spell, decimal, row, text_of, Proper}
 use Rattle.trace.specs.Machine.{kind_of, after_letters, after_tab, after_digits, parted, fresh, after, run, line_at, read_line}
 use Rattle.trace.specs.declared.Line.{Line}
@@ -20,6 +21,10 @@ use Rattle.trace.proofs.Words.{each-kind}
 run-append : (p : Partial) (l m : List ℕ) → run p (l ++ m) ≡ run (run p l) m
 run-append p [] m = refl
 run-append p (b ∷ l) m = run-append (after p b) l m
+
+pub run-fold : (p : Partial) (l : List ℕ) → run p l ≡ fold after p l
+run-fold p [] = refl
+run-fold p (b ∷ l) = run-fold (after p b) l
 
 -- one digit, before the first and after another
 first-digit : (f : Before) (n : ℕ) → n < 10 → after (Tab f) (48 + n) ≡ Digits f n
@@ -68,7 +73,7 @@ tab-after f n = refl
 
 -- a test whether a tab was read behind the word of a kind
 abbrev is_begun : ℕ → Partial → Bool
-is_begun k (Letters high low) = false
+is_begun k (Letters w) = false
 is_begun k (Tab (Kind n)) = eqb n k
 is_begun k (Tab (First n a)) = false
 is_begun k (Tab (Second n a b)) = false
@@ -77,7 +82,7 @@ is_begun k Broken = false
 
 is-begun : (k : ℕ) (p : Partial) → is_begun k p ≡ true → p ≡ Tab (Kind k)
 is-begun k (Tab (Kind n)) t = ap (λ (x : ℕ). Tab (Kind x)) (eqb-true n k t)
-is-begun k (Letters high low) t = absurd (false≢true t)
+is-begun k (Letters w) t = absurd (false≢true t)
 is-begun k (Tab (First n a)) t = absurd (false≢true t)
 is-begun k (Tab (Second n a b)) t = absurd (false≢true t)
 is-begun k (Digits f n) t = absurd (false≢true t)

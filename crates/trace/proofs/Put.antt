@@ -1,11 +1,11 @@
 -- Bytes put into a buffer, one run after the other: each is a run of `sets`, and these join.
 use mathlib.Core.Path.{◌≡◌, sym, ap, ◌∙◌}
 use mathlib.Core.List.{List, [], ◌∷◌, ◌++◌, append_assoc}
-use Prim.Native.Nat.{ℕ, suc, ◌+◌, ◌≤◌, ◌<◌}
+use Prim.Native.Nat.{ℕ, suc, ◌+◌, ◌-◌, ◌≤◌, ◌<◌}
 use native.Mathlib.Omega.{arith}
-use native.Mathlib.Numerals.{add-one}
-use lib.ListN.{length, take, drop, get_or, set, length-append}
-use lib.Seq.{sets, sets-eq, length-sets, take-suc, length-take-le, take_at}
+use lib.ListN.{length, take, drop, set, length-append}
+use lib.Seq.{sets, sets-eq, length-sets, length-take-le, take_at}
+use borrow.Rule.Slice.PartMut.{put_mid, Post-is}
 use Rattle.trace.specs.Form.{decimal, row, text}
 use Rattle.trace.specs.Put.{placed, Put}
 
@@ -58,15 +58,15 @@ put_then {l} {m} {o} {at} {r} {s} {xs} {ys} p q =
           ∙ sym (placed-sets l at (xs ++ ys) (omega arith));
     }
 
--- a turn of a loop that puts the bytes of a list
-pub put-more : (l m : List ℕ) (at i : ℕ) (s : List ℕ) → i < length s → at + length s ≤ length l → Put l m at (at + i) (take i s)
-    → Put l (set m (at + i) (get_or s i 0)) at (at + (i + 1)) (take (i + 1) s)
-put-more l m at i s h g p =
-    let n : length (take i s) ≡ i = length-take-le i s (omega arith) in
-    let k : length m ≡ length l = put-length p in
-    let e : take i s ++ (get_or s i 0 ∷ []) ≡ take (i + 1) s = sym (ap (λ (j : ℕ). take j s) (add-one i) ∙ take-suc s i 0 h) in
-    let a : at + (i + 1) ≡ at + i + 1 = omega arith in
-    rw a (put_as e (put_then p (put_one m (at + i) (get_or s i 0) (omega arith))))
+-- a run of cells that is written over as a whole
+pub put-range : (l : List ℕ) (at : ℕ) (bs : List ℕ) → at + length bs ≤ length l → Put l (put_mid at (at + length bs - at) l bs) at (at + length bs) bs
+unfolding placed
+put-range l at bs h =
+    record {
+      fits = h;
+      next = omega arith;
+      cells = ap (λ (x : List ℕ). take at l ++ (bs ++ x)) (Post-is at (at + length bs) l (omega arith)) ∙ sym (append_assoc (take at l) bs (drop (at + length bs) l));
+    }
 
 -- the parts of a line
 pub put-row : {l m₁ m₂ m₃ m₄ m₅ : List ℕ} {at p q r s t : ℕ} (w : List ℕ) (a b c : ℕ)

@@ -1,18 +1,20 @@
 -- What is computed of every word at once: the printer's rows are right, no word has more than `longest_word` letters, nor a tab or a line feed.
 use mathlib.Core.Path.{◌≡◌, refl, ap}
 use mathlib.Core.Bool.{Bool, true, false, ◌||◌, not}
-use mathlib.Core.List.{List, [], ◌∷◌, ◌++◌, map}
+use mathlib.Core.List.{List, [], ◌∷◌}
 use Prim.Native.Nat.{ℕ, suc, ◌+◌, ◌-◌, ◌≤◌, ◌<◌}
+use Rattle.std.specs.Prelude.{◌==◌, take_while}
 use native.Mathlib.Omega.{arith}
-use borrow.Author.Tests.{not-true, leb-true}
+use borrow.Author.Tests.{ne_eqb, not-true, leb-true}
 use lib.Dec.{leb, eqb}
-use lib.ListN.{get_or, take, length, get_or-eq_default}
+use lib.ListN.{get_or, take, drop, length, get_or-eq_default}
 use Rattle.lists.specs.Tests.{All, every, same}
 use Rattle.lists.proofs.Tests.{both}
 use Rattle.lists.proofs.Every.{every-all}
 use Rattle.lists.proofs.Pairs.{same-is}
-use Rattle.trace.specs.Form.{ascii, words, word, last_kind}
+use Rattle.trace.specs.Form.{words, word, last_kind}
 use Rattle.trace.specs.Bounds.{longest_word}
+use Rattle.trace.specs.declared.TheConstants.{WORDS}
 use Rattle.trace.proofs.Cases.{each_below, below-passes, get_or-passes}
 
 -- a test of each kind, and of 0, which has no letters
@@ -41,21 +43,12 @@ word-plain k =
     every-all (λ b. not (eqb b 9 || eqb b 10)) (λ b. (eqb b 9 || eqb b 10) ≡ false) (λ b. not-true (eqb b 9 || eqb b 10)) (word k)
     (each_word (every (λ b. not (eqb b 9 || eqb b 10))) refl k)
 
--- the constants of the code: each word in a row of sixteen bytes, and how many of these are its letters
-abbrev pub rows : List (List ℕ)
-rows = map (λ w. take 16 (w ++ ascii "................")) ([] ∷ words)
+-- the table of the code: behind its zeros, a row is the word of its kind
+abbrev word_in : List ℕ → List ℕ
+word_in row = let zeros = length (take_while (λ b. b == 0) row) in take (16 - zeros) (drop zeros row)
 
-abbrev pub sizes : List ℕ
-sizes = map length ([] ∷ words)
-
-pub record Row (k : ℕ) : Type 0 where
-  pub short : get_or sizes k 0 ≤ length (get_or rows k [])
-  pub same : take (get_or sizes k 0) (get_or rows k []) ≡ word k
-
-pub table-row : (k : ℕ) → k ≤ last_kind → Row k
+pub row-word : (k : ℕ) → 1 ≤ k → k ≤ last_kind → word_in (get_or WORDS (k - 1) []) ≡ word k
 unfolding word
-table-row k h =
-    record {
-      short = leb-true _ _ (each-kind (λ n. leb (get_or sizes n 0) (length (get_or rows n []))) refl k h);
-      same = same-is _ _ (each-kind (λ n. same (take (get_or sizes n 0) (get_or rows n [])) (word n)) refl k h);
-    }
+row-word k g h =
+    let t = each-kind (λ n. eqb n 0 || same (word_in (get_or WORDS (n - 1) [])) (word n)) refl k h in
+    same-is _ _ (rw (ne_eqb k 0 (omega arith)) at t)

@@ -1,5 +1,5 @@
 -- A line read byte by byte, in the code's words. What it comes to is said by Form and Reads alone: proofs/Meaning.antt, proofs/Fields.antt.
-use Rattle.std.specs.Prelude.{Bool, false, cond, ◌&&◌, List, [], ◌∷◌, map, ℕ, ◌+◌, ◌-◌, ◌*◌, ◌/◌, ◌%◌, ◌^◌, ltb, leb, eqb}
+use Rattle.std.specs.Prelude.{Bool, false, cond, ◌&&◌, List, [], ◌∷◌, map, ℕ, ◌+◌, ◌-◌, ◌*◌, ◌^◌, ltb, leb, eqb, Option, Some, None}
 use Rattle.trace.specs.Form.{words, line}
 use Rattle.trace.specs.Reads.{counted, is_digit}
 use Rattle.trace.specs.declared.Reading.{Reading}
@@ -14,15 +14,15 @@ abbrev pub packed : ℕ → List ℕ → ℕ
 packed w [] = w
 packed w (b ∷ l) = packed (w * 256 + b) l
 
--- such a number, from its last eight digits and those before them
-abbrev pub whole : ℕ → ℕ → ℕ
-whole high low = high * 2 ^ 64 + low
-
 abbrev pub codes : List ℕ
 codes = map (packed 0) words
 
 unfoldable pub kind_of : ℕ → ℕ
 kind_of w = counted (eqb w) 1 codes
+
+-- a kind, where there is one
+abbrev pub known : ℕ → Option ℕ
+known k = cond (eqb k 0) None (Some k)
 
 abbrev pub is_letter : ℕ → Bool
 is_letter b = leb 97 b && leb b 122
@@ -31,11 +31,11 @@ is_letter b = leb 97 b && leb b 122
 abbrev pub begun : ℕ → Partial
 begun k = cond (eqb k 0) Broken (Tab (Kind k))
 
--- one letter more: the first of the last eight digits goes over to those before them
-unfoldable pub after_letters : ℕ → ℕ → ℕ → Partial
-after_letters high low b =
-    cond (eqb b 9) (begun (kind_of (whole high low)))
-    (cond (is_letter b && ltb high (2 ^ 56)) (Letters (high * 256 + low / 2 ^ 56) (low % 2 ^ 56 * 256 + b)) Broken)
+-- one letter more, of sixteen at the most
+unfoldable pub after_letters : ℕ → ℕ → Partial
+after_letters w b =
+    cond (eqb b 9) (begun (kind_of w))
+    (cond (is_letter b && ltb w (2 ^ 120)) (Letters (w * 256 + b)) Broken)
 
 -- a tab after a number
 abbrev pub parted : Before → ℕ → Partial
@@ -46,6 +46,10 @@ parted (Second k a b) n = Broken
 unfoldable pub after_tab : Before → ℕ → Partial
 after_tab f b = cond (is_digit b) (Digits f (b - 48)) Broken
 
+-- a number, where it fits
+abbrev pub fitting : ℕ → Option ℕ
+fitting n = cond (ltb n (2 ^ 64)) (Some n) None
+
 -- one digit more: none after a 0, and no number of 2^64 or more
 abbrev pub more : Before → ℕ → ℕ → Partial
 more f n d = cond (ltb 0 n && ltb (n * 10 + d) (2 ^ 64)) (Digits f (n * 10 + d)) Broken
@@ -55,11 +59,11 @@ after_digits f n b = cond (eqb b 9) (parted f n) (cond (is_digit b) (more f n (b
 
 -- before the first byte
 abbrev pub fresh : Partial
-fresh = Letters 0 0
+fresh = Letters 0
 
 -- one byte more
 abbrev pub after : Partial → ℕ → Partial
-after (Letters high low) b = after_letters high low b
+after (Letters w) b = after_letters w b
 after (Tab f) b = after_tab f b
 after (Digits f n) b = after_digits f n b
 after Broken b = Broken
@@ -75,14 +79,14 @@ full (First k a) n = Malformed
 full (Second k a b) n = Good (line k a b n)
 
 abbrev pub line_at : Partial → Reading
-line_at (Letters high low) = Malformed
+line_at (Letters w) = Malformed
 line_at (Tab f) = Malformed
 line_at (Digits f n) = full f n
 line_at Broken = Malformed
 
 -- no byte of a line is read
 abbrev pub is_fresh : Partial → Bool
-is_fresh (Letters high low) = eqb low 0
+is_fresh (Letters w) = eqb w 0
 is_fresh (Tab f) = false
 is_fresh (Digits f n) = false
 is_fresh Broken = false

@@ -1,15 +1,17 @@
 // The text of a trace: a line in, a line out.
 #![tactic(auto)]
 
-ghost use Rattle.std.specs.Prelude.{◌≡◌, ◌∷◌, [], ◌+◌, ◌≤◌, ◌<◌, length, drop};
-ghost use Rattle.trace.specs.Form.{word, last_kind, decimal, text, printed, bad_line, short_line, ReadAs};
+ghost use Rattle.std.specs.Prelude.{◌≡◌, ◌∷◌, [], ◌+◌, ◌*◌, ◌==◌, fold, position, take_while, ◌≤◌, ◌<◌, length, drop};
+ghost use Rattle.std.specs.Int.{from_be_bytes, w128};
+ghost use Rattle.trace.specs.Form.{word, decimal, text, printed, bad_line, short_line, ReadAs};
 ghost use Rattle.trace.specs.Bounds.{longest_field, longest_with, longest_line};
 ghost use Rattle.trace.specs.Reads.{reading};
-ghost use Rattle.trace.specs.Machine.{whole, kind_of, after_letters, after_tab, after_digits, parted, after, line_at, is_fresh, fresh as nothing_read};
+ghost use Rattle.trace.specs.Machine.{kind_of, known, fitting, after_letters, after_tab, after_digits, parted, after, line_at, is_fresh, fresh as nothing_read};
 ghost use Rattle.trace.specs.Chunks.{reached};
 ghost use Rattle.trace.specs.Put.{Put};
 
 // A line of a trace: the number of its word, and its three numbers.
+// kept: a kind is a number, since the definitions speak of every number there (`printed`, `lines_of-printed`), and a log has the same ones.
 #[repr(C)]
 #[derive(Clone, Copy)]
 pub struct Line {
@@ -20,6 +22,7 @@ pub struct Line {
 }
 
 // What is read where a line should stand.
+// kept: docs/RULES.md 6.4 has a word for what is no line, and `None` would say less: the judge and replay answer a malformed line, and do not pass it over.
 #[derive(Clone, Copy)]
 pub enum Reading {
     Good(Line),
@@ -34,17 +37,17 @@ pub enum Before {
     Second(u64, u64, u64),
 }
 
-// What is known of a line of which a part is read: the letters of its word so far, as a number in base 256 whose last eight digits stand apart; a tab; the digits
-// of a number so far.
+// What is known of a line of which a part is read: the letters of its word so far, as a number in base 256; a tab; the digits of a number so far.
 #[derive(Clone, Copy)]
 pub enum Partial {
-    Letters(u64, u64),
+    Letters(u128),
     Tab(Before),
     Digits(Before, u64),
     Broken,
 }
 
 // How far a line goes in a chunk of the input: the place after what was read, and whether its line feed was met.
+// kept: the part that is read is there either way, so the flag has no value of its own beside it.
 #[derive(Clone, Copy)]
 pub struct Reach {
     pub at: usize,
@@ -54,82 +57,90 @@ pub struct Reach {
 
 const TAB: u8 = b'\t';
 
-// The place of the eighth digit in base 256.
-const EIGHTH: u64 = 0x100_0000_0000_0000;
+// What the letters of a word stay below that is not full: no word has more than sixteen.
+const FULL: u128 = 1 << 120;
 
-fn wide(b: u8) -> u64
-    ensures { result ≡ b }
+// The words, from kind 1 on, each behind as many zeros as make sixteen bytes: a number in base 256 whose digits are its letters.
+static WORDS: [[u8; 16]; Line::LAST as usize] = [
+    *b"\0\0\0\0\0\0\0\0\0reserve",
+    *b"\0\0\0\0\0\0\0\0\0\0create",
+    *b"\0\0\0\0\0\0\0\0\0\0\0\0\0map",
+    *b"\0\0\0\0\0\0\0\0\0\0access",
+    *b"\0\0\0\0\0\0\0\0\0\0\0unmap",
+    *b"\0\0\0\0\0\0\0\0\0release",
+    *b"\0\0\0\0\0\0\0\0\0\0record",
+    *b"\0\0\0\0\0\0\0\0\0\0\0asked",
+    *b"\0\0\0\0\0\0\0\0\0\0\0\0wait",
+    *b"\0\0\0\0\0\0\0\0\0\0\0\0sync",
+    *b"\0\0\0\0\0\0\0\0giveback",
+    *b"\0\0\0\0\0\0\0\0\0\0\0\0open",
+    *b"\0\0\0\0\0\0\0\0\0\0malloc",
+    *b"\0\0\0\0\0\0\0\0\0\0\0\0free",
+    *b"\0\0\0\0\0\0\0\0\0\0\0close",
+    *b"\0\0\0\0\0\0\0\0\0\0result",
+    *b"\0\0\0\0\0\0\0\0\0\0\0small",
+    *b"\0\0\0\0\0\0\0dropsmall",
+];
+
+// Which of them has these letters.
+fn place_of(letters: u128) -> Option<usize>
+    ensures { result ≡ position (λ row. letters == from_be_bytes w128 row) WORDS }
 {
-    b as u64
+    WORDS
+        .iter()
+        .position(|row| letters == u128::from_be_bytes(*row))
 }
 
-// The number of the word whose letters these are; 0 where it is none of the words.
-fn kind_of(high: u64, low: u64) -> u64
-    ensures { result ≡ kind_of (whole high low) }
+// The kind of the word whose letters these are.
+fn kind_of(letters: u128) -> Option<u64>
+    ensures { result ≡ known (kind_of letters) }
 {
-    match high {
-        // the words of at most eight letters
-        0 => match low {
-            0x72657365727665 => Line::RESERVE,
-            0x637265617465 => Line::CREATE,
-            0x6d6170 => Line::MAP,
-            0x616363657373 => Line::ACCESS,
-            0x756e6d6170 => Line::UNMAP,
-            0x72656c65617365 => Line::RELEASE,
-            0x7265636f7264 => Line::RECORD,
-            0x61736b6564 => Line::ASKED,
-            0x77616974 => Line::WAIT,
-            0x73796e63 => Line::SYNC,
-            0x676976656261636b => Line::GIVEBACK,
-            0x6f70656e => Line::OPEN,
-            0x6d616c6c6f63 => Line::MALLOC,
-            0x66726565 => Line::FREE,
-            0x636c6f7365 => Line::CLOSE,
-            0x726573756c74 => Line::RESULT,
-            0x736d616c6c => Line::SMALL,
-            _ => 0,
-        },
-        0x64 => match low {
-            0x726f70736d616c6c => Line::DROPSMALL,
-            _ => 0,
-        },
-        _ => 0,
-    }
+    let place = place_of(letters)?;
+    Some(place as u64 + 1)
 }
 
-fn after_letters(high: u64, low: u64, b: u8) -> Partial
-    ensures { result ≡ after_letters high low b }
+// How many zeros stand in front.
+fn zeros(row: &[u8]) -> usize
+    ensures { result ≡ length (take_while (λ b. b == 0) row.now) }
 {
-    if b == TAB {
-        let kind = kind_of(high, low);
-        if kind == 0 {
-            return Partial::Broken;
-        }
-        return Partial::Tab(Before::Kind(kind));
+    row.iter().take_while(|b| **b == 0).count()
+}
+
+// The letters of a kind's word; a number that is no kind has none.
+#[tactic(auto, using(crate::proofs::Words::no_word), unfolding(crate::specs::Form::word))]
+fn word(kind: u64) -> &'static [u8]
+    ensures { result.now ≡ word kind }
+{
+    if kind == 0 {
+        return b"";
     }
-    if b < b'a' {
-        return Partial::Broken;
+    if Line::LAST < kind {
+        return b"";
     }
-    if b'z' < b {
-        return Partial::Broken;
+    let row = &WORDS[kind as usize - 1];
+    &row[zeros(row)..]
+}
+
+fn after_letters(letters: u128, b: u8) -> Partial
+    ensures { result ≡ after_letters letters b }
+{
+    match b {
+        TAB => match kind_of(letters) {
+            Some(kind) => Partial::Tab(Before::Kind(kind)),
+            None => Partial::Broken,
+        },
+        b'a'..=b'z' if letters < FULL => Partial::Letters(letters * 256 + u128::from(b)),
+        _ => Partial::Broken,
     }
-    // no word has more than sixteen letters
-    if high < EIGHTH {
-        return Partial::Letters(high * 256 + low / EIGHTH, low % EIGHTH * 256 + wide(b));
-    }
-    Partial::Broken
 }
 
 fn after_tab(before: Before, b: u8) -> Partial
     ensures { result ≡ after_tab before b }
 {
-    if b < b'0' {
-        return Partial::Broken;
+    match b {
+        b'0'..=b'9' => Partial::Digits(before, u64::from(b - b'0')),
+        _ => Partial::Broken,
     }
-    if b'9' < b {
-        return Partial::Broken;
-    }
-    Partial::Digits(before, wide(b) - 48)
 }
 
 // A tab after a number.
@@ -139,30 +150,29 @@ fn part(before: Before, n: u64) -> Partial
     match before {
         Before::Kind(kind) => Partial::Tab(Before::First(kind, n)),
         Before::First(kind, first) => Partial::Tab(Before::Second(kind, first, n)),
-        Before::Second(_, _, _) => Partial::Broken,
+        Before::Second(..) => Partial::Broken,
     }
+}
+
+// One digit more, where the number still fits.
+fn append(n: u64, digit: u8) -> Option<u64>
+    ensures { result ≡ fitting (n * 10 + digit) }
+{
+    n.checked_mul(10)?.checked_add(u64::from(digit))
 }
 
 fn after_digits(before: Before, n: u64, b: u8) -> Partial
     ensures { result ≡ after_digits before n b }
 {
-    if b == TAB {
-        return part(before, n);
+    match b {
+        TAB => part(before, n),
+        // no digit follows a 0 that leads
+        b'0'..=b'9' if n != 0 => match append(n, b - b'0') {
+            Some(more) => Partial::Digits(before, more),
+            None => Partial::Broken,
+        },
+        _ => Partial::Broken,
     }
-    if b < b'0' {
-        return Partial::Broken;
-    }
-    if b'9' < b {
-        return Partial::Broken;
-    }
-    let digit = wide(b) - 48;
-    if n == 0 {
-        return Partial::Broken;
-    }
-    if (18446744073709551615 - digit) / 10 < n {
-        return Partial::Broken;
-    }
-    Partial::Digits(before, n * 10 + digit)
 }
 
 impl Partial {
@@ -170,7 +180,7 @@ impl Partial {
     pub fn fresh() -> Self
         ensures { result ≡ nothing_read }
     {
-        Partial::Letters(0, 0)
+        Partial::Letters(0)
     }
 
     // One byte more, which is no line feed.
@@ -178,11 +188,18 @@ impl Partial {
         ensures { result ≡ after self b }
     {
         match self {
-            Partial::Letters(high, low) => after_letters(high, low, b),
+            Partial::Letters(letters) => after_letters(letters, b),
             Partial::Tab(before) => after_tab(before, b),
             Partial::Digits(before, n) => after_digits(before, n, b),
             Partial::Broken => Partial::Broken,
         }
+    }
+
+    // So many bytes more, none of them a line feed.
+    fn through(self, bytes: &[u8]) -> Self
+        ensures { result ≡ fold after self bytes.now }
+    {
+        bytes.iter().fold(self, |partial, b| partial.step(*b))
     }
 
     // What the line says, where it ends here.
@@ -190,19 +207,13 @@ impl Partial {
         ensures { result ≡ line_at self }
     {
         match self {
-            Partial::Letters(_, _) => Reading::Malformed,
-            Partial::Tab(_) => Reading::Malformed,
-            Partial::Digits(before, n) => match before {
-                Before::Kind(_) => Reading::Malformed,
-                Before::First(_, _) => Reading::Malformed,
-                Before::Second(kind, first, second) => Reading::Good(Line {
-                    kind,
-                    first,
-                    second,
-                    third: n,
-                }),
-            },
-            Partial::Broken => Reading::Malformed,
+            Partial::Digits(Before::Second(kind, first, second), third) => Reading::Good(Line {
+                kind,
+                first,
+                second,
+                third,
+            }),
+            _ => Reading::Malformed,
         }
     }
 
@@ -210,12 +221,7 @@ impl Partial {
     pub fn is_fresh(self) -> bool
         ensures { result ≡ is_fresh self }
     {
-        match self {
-            Partial::Letters(_, low) => low == 0,
-            Partial::Tab(_) => false,
-            Partial::Digits(_, _) => false,
-            Partial::Broken => false,
-        }
+        matches!(self, Partial::Letters(0))
     }
 
     // Reads on from a place of a chunk, up to past the next line feed or to the end of the chunk.
@@ -223,28 +229,27 @@ impl Partial {
         requires { at ≤ length chunk.now }
         ensures { result ≡ reached at self (drop at chunk.now) }
     {
-        let mut i = at;
+        let rest = &chunk[at..];
         let mut partial = self;
-        while i < chunk.len() {
-            let b = chunk[i];
-            if b == b'\n' {
+        for (passed, b) in rest.iter().enumerate() {
+            if *b == b'\n' {
                 return Reach {
-                    at: i + 1,
+                    at: at + passed + 1,
                     partial,
                     ended: true,
                 };
             }
-            partial = partial.step(b);
-            i += 1;
+            partial = partial.step(*b);
         }
         Reach {
-            at: i,
+            at: chunk.len(),
             partial,
             ended: false,
         }
     }
 }
 
+// kept: a buffer and the place in it are two arguments, since a struct of both would say `Put` of the same values in each clause.
 pub fn put_byte(out: &mut [u8], at: usize, b: u8) -> usize
     requires { at < length out.old }
     ensures { Put out.old out.new at result (b ∷ []) }
@@ -257,21 +262,19 @@ pub fn put_bytes(out: &mut [u8], at: usize, bytes: &[u8]) -> usize
     requires { at + length bytes.now ≤ length out.old }
     ensures { Put out.old out.new at result bytes.now }
 {
-    let mut i = 0;
-    while i < bytes.len() {
-        out[at + i] = bytes[i];
-        i += 1;
-    }
-    at + i
+    let end = at + bytes.len();
+    out[at..end].copy_from_slice(bytes);
+    end
 }
 
 fn digit(d: u64) -> u8
     requires { d < 10 }
     ensures { result ≡ 48 + d }
 {
-    48 + d as u8
+    b'0' + d as u8
 }
 
+// kept: std's `Display` of a number writes to what may refuse a byte, and this cannot fail.
 pub fn put_decimal(out: &mut [u8], at: usize, n: u64) -> usize
     requires { at + length (decimal n) ≤ length out.old }
     ensures { Put out.old out.new at result (decimal n) }
@@ -328,44 +331,6 @@ pub fn put_short(out: &mut [u8], at: usize, line: u64) -> usize
     put_text(out, at, b"short", line, 0, 0)
 }
 
-// The words from kind 0, which has none, each in a row of sixteen bytes, and how many of these are its letters.
-const WORDS: [[u8; 16]; ROWS] = [
-    *b"................",
-    *b"reserve.........",
-    *b"create..........",
-    *b"map.............",
-    *b"access..........",
-    *b"unmap...........",
-    *b"release.........",
-    *b"record..........",
-    *b"asked...........",
-    *b"wait............",
-    *b"sync............",
-    *b"giveback........",
-    *b"open............",
-    *b"malloc..........",
-    *b"free............",
-    *b"close...........",
-    *b"result..........",
-    *b"small...........",
-    *b"dropsmall.......",
-];
-
-const SIZES: [usize; ROWS] = [0, 7, 6, 3, 6, 5, 7, 6, 5, 4, 4, 8, 4, 6, 4, 5, 6, 5, 9];
-
-const ROWS: usize = Line::LAST as usize + 1;
-
-// The row of a kind's word; a number that is no kind has none, as 0.
-#[tactic(auto, using(crate::proofs::Words::no_word), unfolding(crate::specs::Form::word))]
-fn table_row(kind: u64) -> usize
-    ensures { (result ≤ last_kind) × (word result ≡ word kind) }
-{
-    if Line::LAST < kind {
-        return 0;
-    }
-    kind as usize
-}
-
 impl Line {
     // The driver's words, by the numbers that they have in a log.
     pub const RESERVE: u64 = 1;
@@ -413,23 +378,16 @@ impl Line {
         ensures value { result ≡ reading bytes.now }
         ensures read_as { ReadAs bytes.now result }
     {
-        let mut partial = Partial::fresh();
-        let mut i = 0;
-        while i < bytes.len() {
-            partial = partial.step(bytes[i]);
-            i += 1;
-        }
-        partial.finish()
+        Partial::fresh().through(bytes).finish()
     }
 
     // The line with its line feed, from a place of the buffer on; the place after it.
     pub fn put(self, out: &mut [u8], at: usize) -> usize
         requires { at + longest_line ≤ length out.old }
-        ensures { Put out.old out.new at result (printed self) }
+        ensures puts { Put out.old out.new at result (printed self) }
+        ensures within { result ≤ at + longest_line }
     {
-        let k = table_row(self.kind);
-        let row = WORDS[k];
-        let size = SIZES[k];
-        put_text(out, at, &row[..size], self.first, self.second, self.third)
+        let word = word(self.kind);
+        put_text(out, at, word, self.first, self.second, self.third)
     }
 }

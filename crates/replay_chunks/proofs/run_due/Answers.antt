@@ -8,7 +8,7 @@ use Rattle.replay_chunks.proofs.run_due.Goals as goal
 
 pub returns-then-is_short : goal.returns-then-is_short
 returns-then-is_short c =
-    due-short c.run-called.ensures c.requires.0 c.run-called.auto.log c.args.number
+    due-short c.run-called.ensures c.requires.0 c.run-called.auto.log c.args.due.number
     (sym c.is_short.ensures ∙ c.if-is_short.true) c.put_short.ensures
 
 pub put_call-requires : goal.put_call-requires
@@ -18,5 +18,5 @@ put_call-requires c =
 
 pub returns : goal.returns
 returns c =
-    due-printed c.run-called.ensures c.requires.0 c.run-called.auto.log c.args.number
+    due-printed c.run-called.ensures c.requires.0 c.run-called.auto.log c.args.due.number
     (sym c.is_short.ensures ∙ c.if-is_short.false) c.put_call.ensures

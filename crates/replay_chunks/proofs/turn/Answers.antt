@@ -2,17 +2,19 @@
 use borrow.Author.Tests.{not-true, not-false}
 use Rattle.replay_chunks.proofs.Turning.{turn-reads, turn-runs, turn-short}
 use Rattle.replay_chunks.proofs.turn.Goals as goal
+use Rattle.replay_chunks.proofs.turn.Goals.{then-not-ran, else-not-ran}
 
-pub returns-then-not-a : goal.returns-then-not-a
-returns-then-not-a c =
-    turn-reads c.args.pool c.args.s c.advance-a.ensures c.requires.at_in_bounds.0 (not-true _ c.if-not-a.true)
-
-pub returns-then-not-ran : goal.returns-then-not-ran
-returns-then-not-ran c =
-    turn-short c.args.pool c.args.s c.advance-a.ensures c.requires.at_in_bounds.0 (not-false _ c.if-not-a.false)
-    c.run_due-ran.ensures (not-true _ c.if-not-ran.true)
+pub returns-in_default : goal.returns-in_default
+returns-in_default c = turn-reads c.args.pool c.args.s c.advance-a.ensures c.requires.at_in_bounds.0 c.in_default.is
 
 pub returns : goal.returns
 returns c =
-    turn-runs c.args.pool c.args.s c.advance-a.ensures c.requires.at_in_bounds.0 (not-false _ c.if-not-a.false)
-    c.run_due-ran.ensures (not-false _ c.if-not-ran.false)
+    let a = c.args in
+    elim c.if-not-ran.branch [
+      | then-not-ran w ↦
+          let v = not-true _ w.if-not-ran.true in
+          rw (w.place-is, v) (turn-short a.pool a.s c.advance-a.ensures c.requires.at_in_bounds.0 c.in-Some.is c.run_due-ran.ensures v)
+      | else-not-ran w ↦
+          let v = not-false _ w.if-not-ran.false in
+          rw (w.place-is, v) (turn-runs a.pool a.s c.advance-a.ensures c.requires.at_in_bounds.0 c.in-Some.is c.run_due-ran.ensures v)
+    ]

@@ -22,4 +22,4 @@ returns c =
     let a = c.args in
     put_as
     (call-text a.call a.outcome a.count a.log.now c.call_line-first.ensures c.result_line-last.ensures)
-    (put_then (put_then c.put_line-next.ensures.puts c.put_records-end.ensures.puts) c.put.ensures)
+    (put_then (put_then c.put-next.ensures.puts c.put_records-end.ensures.puts) c.put.ensures.puts)

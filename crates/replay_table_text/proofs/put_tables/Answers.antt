@@ -2,7 +2,7 @@
 use mathlib.Core.Path.{◌≡◌}
 use native.Mathlib.Omega.{arith}
 use borrow.Author.Tests.{eq-eqb, ne_eqb}
-use Rattle.tables.specs.Values.{tables_of}
+use Rattle.tables.specs.Values.{tables_of, free_of, live_of, holes_of, zombies_of, pages_of, roots_of}
 use Rattle.tables.specs.declared.Pool.{Pool}
 use Rattle.replay_table_text.specs.Tables.{counter_entry, none_entry, entries, tables_text}
 use Rattle.replay_table_text.proofs.Walks.{puts_then, puts_as}
@@ -22,14 +22,14 @@ returns-then-pool-eq0 c =
     puts_as (closed-text c.args.pool c.if-pool-eq0.true) (omega arith) c.put_entry.ensures
 
 pub returns : goal.returns
-unfolding counter_entry entries tables_of
+unfolding counter_entry entries tables_of free_of live_of holes_of zombies_of pages_of roots_of
 returns c =
     puts_as
     (open-text c.args.pool c.if-pool-eq0.false)
     (omega arith)
-    (puts_then c.put_free-live.ensures
-    (puts_then c.put_live-holes.ensures
-    (puts_then c.put_holes-zombies.ensures
-    (puts_then c.put_zombies-pages.ensures
-    (puts_then c.put_pages-roots.ensures
-    (puts_then c.put_roots-counter.ensures c.put_entry-2.ensures))))))
+    (puts_then c.put_table-live.ensures
+    (puts_then c.put_table-holes.ensures
+    (puts_then c.put_table-zombies.ensures
+    (puts_then c.put_table-pages.ensures
+    (puts_then c.put_table-roots.ensures
+    (puts_then c.put_table-counter.ensures c.put_entry-2.ensures))))))

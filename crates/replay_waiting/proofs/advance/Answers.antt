@@ -5,7 +5,10 @@ use Rattle.replay_waiting.proofs.advance.Goals as goal
 
 pub returns-then-s : goal.returns-then-s
 returns-then-s c =
-    still-over c.args.s _ _ _ _ c.if-s.true (omega arith) c.requires.stands.0
+    rw c.reading.ensures (still-over c.args.s _ _ _ _ c.if-s.true (omega arith) c.requires.stands.0)
 
-pub returns : goal.returns
-returns c = c.begin.ensures.advances c.if-s.false c.if-s-2.false _
+pub returns-in-None : goal.returns-in-None
+returns-in-None c = c.begin.ensures.advances c.if-s.false c.in-None.is _
+
+pub returns-in-Some : goal.returns-in-Some
+returns-in-Some c = c.go_on.ensures.advances c.if-s.false c.in-Some.is

@@ -5,7 +5,8 @@ use Rattle.replay_waiting.proofs.go_on.Goals as goal
 pub returns-in-More : goal.returns-in-More
 returns-in-More c =
     let g = c.gather-g.ensures in
-    rw c.reading.ensures (record { advances = λ o b. waits-on c.args.s g c.requires.stands.0.line o b _ c.in-More.is })
+    rw (c.reading-in-More.ensures, c.reading.ensures)
+    (record { advances = λ o b. waits-on c.args.s g c.requires.stands.0.line o b _ c.in-More.is })
 
 pub returns-in-Call : goal.returns-in-Call
 returns-in-Call c =

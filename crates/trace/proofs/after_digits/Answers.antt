@@ -1,54 +1,58 @@
--- `trace::after_digits` meets its contract: each return is a case of the rule; one digit more stays below 2^64 exactly where the quotient's test says so.
-use Prim.Native.Nat.{◌+◌, ◌-◌, ◌*◌, ◌^◌}
+-- `trace::after_digits` meets its contract: each arm is a case of the rule.
 use native.Mathlib.Omega.{arith}
-use borrow.Author.Tests.{lt-ltb, le-ltb, le-leb, lt-leb, eq-eqb, ne_eqb}
 use mathlib.Core.Bool.{and-false}
+use borrow.Author.Tests.{lt-ltb, le-leb, lt-leb, eq-eqb, ne_eqb}
 use Rattle.trace.specs.Machine.{after_digits}
+use Rattle.trace.proofs.Codes.{fitting-Some, fitting-None}
 use Rattle.trace.proofs.after_digits.Goals as goal
 
-pub returns-then-b-eq-TAB : goal.returns-then-b-eq-TAB
+pub returns-in-9 : goal.returns-in-9
 unfolding after_digits
-returns-then-b-eq-TAB c = simp (eq-eqb _ _ c.if-b-eq-TAB.true, c.part.ensures)
+returns-in-9 c = simp (eq-eqb _ _ c.in-9.is, c.part.ensures)
 
-pub returns-then-b-lt48 : goal.returns-then-b-lt48
+pub returns-in-Some : goal.returns-in-Some
 unfolding after_digits
-returns-then-b-lt48 c = simp (ne_eqb _ _ c.if-b-eq-TAB.false, lt-leb _ _ c.if-b-lt48.true)
-
-pub returns-then-b-gt57 : goal.returns-then-b-gt57
-unfolding after_digits
-returns-then-b-gt57 c = simp (ne_eqb _ _ c.if-b-eq-TAB.false, le-leb _ _ c.if-b-lt48.false, lt-leb _ _ c.if-b-gt57.true)
-
-pub returns-then-n-eq0 : goal.returns-then-n-eq0
-unfolding after_digits
-returns-then-n-eq0 c =
+returns-in-Some c =
+    let a = c.args in
+    let f = fitting-Some c.in-Some.ensures in
     simp (
-      ne_eqb _ _ c.if-b-eq-TAB.false,
-      le-leb _ _ c.if-b-lt48.false,
-      le-leb _ _ c.if-b-gt57.false,
-      c.if-n-eq0.true,
+      ne_eqb a.b 9 (omega arith),
+      le-leb 48 a.b (omega arith),
+      le-leb a.b 57 (omega arith),
+      lt-ltb 0 a.n (omega arith),
+      f.0,
+      f.1,
     )
 
-pub returns-then-digit-n : goal.returns-then-digit-n
+pub returns-in-None : goal.returns-in-None
 unfolding after_digits
-returns-then-digit-n c =
-    let a = c.args in
+returns-in-None c =
+    let b = c.args.b in
     simp (
-      ne_eqb _ _ c.if-b-eq-TAB.false,
-      le-leb _ _ c.if-b-lt48.false,
-      le-leb _ _ c.if-b-gt57.false,
-      le-ltb (a.n * 10 + (a.b - 48)) (2 ^ 64) (omega arith),
+      ne_eqb b 9 (omega arith),
+      le-leb 48 b (omega arith),
+      le-leb b 57 (omega arith),
+      fitting-None _ c.in-None.ensures,
       and-false,
     )
 
-pub returns : goal.returns
+pub returns-in_default : goal.returns-in_default
 unfolding after_digits
-returns c =
-    let a = c.args in
+returns-in_default c = let b = c.args.b in simp (ne_eqb b 9 (omega arith), lt-leb 48 b (omega arith))
+
+pub returns-in_default-2 : goal.returns-in_default-2
+unfolding after_digits
+returns-in_default-2 c =
+    let b = c.args.b in
     simp (
-      c.wide-digit.ensures,
-      ne_eqb _ _ c.if-b-eq-TAB.false,
-      le-leb _ _ c.if-b-lt48.false,
-      le-leb _ _ c.if-b-gt57.false,
-      lt-ltb 0 a.n (omega arith),
-      lt-ltb (a.n * 10 + (a.b - 48)) (2 ^ 64) (omega arith),
+      ne_eqb b 9 (omega arith),
+      le-leb 48 b (omega arith),
+      le-leb b 57 (omega arith),
+      c.if-n-ne0.false,
     )
+
+pub returns-in_default-3 : goal.returns-in_default-3
+unfolding after_digits
+returns-in_default-3 c =
+    let b = c.args.b in
+    simp (ne_eqb b 9 (omega arith), le-leb 48 b (omega arith), lt-leb b 57 (omega arith))

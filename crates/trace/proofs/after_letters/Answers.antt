@@ -1,45 +1,49 @@
--- `trace::after_letters` meets its contract: each return is a case of the rule.
-use mathlib.Core.Path.{◌≡◌, sym, ◌∙◌}
+-- `trace::after_letters` meets its contract: each arm is a case of the rule.
+use native.Mathlib.Omega.{arith}
 use borrow.Author.Tests.{lt-ltb, le-ltb, le-leb, lt-leb, eq-eqb, ne_eqb}
-use Rattle.trace.specs.Machine.{whole, kind_of, after_letters}
+use Rattle.trace.specs.Machine.{after_letters}
+use Rattle.trace.proofs.Codes.{known-Some, known-None}
 use Rattle.trace.proofs.after_letters.Goals as goal
 
-pub returns-then-kind-eq0 : goal.returns-then-kind-eq0
+pub returns-in-Some : goal.returns-in-Some
 unfolding after_letters
-returns-then-kind-eq0 c =
-    let a = c.args in
-    let z : kind_of (whole a.high a.low) ≡ 0 = sym c.kind_of-kind.ensures ∙ c.if-kind-eq0.true in
-    simp (eq-eqb _ _ c.if-b-eq-TAB.true, z)
+returns-in-Some c =
+    let k = known-Some c.in-Some.ensures in
+    simp (eq-eqb _ _ c.in-9.is, k.0, ne_eqb _ _ k.1)
 
-pub returns-then-b-eq-TAB : goal.returns-then-b-eq-TAB
+pub returns-in-None : goal.returns-in-None
 unfolding after_letters
-returns-then-b-eq-TAB c = simp (eq-eqb _ _ c.if-b-eq-TAB.true, ← c.kind_of-kind.ensures, ne_eqb _ _ c.if-kind-eq0.false)
+returns-in-None c = simp (eq-eqb _ _ c.in-9.is, known-None c.in-None.ensures)
 
-pub returns-then-b-lt97 : goal.returns-then-b-lt97
+pub returns-in-97-to-122 : goal.returns-in-97-to-122
 unfolding after_letters
-returns-then-b-lt97 c = simp (ne_eqb _ _ c.if-b-eq-TAB.false, lt-leb _ _ c.if-b-lt97.true)
-
-pub returns-then-b-gt122 : goal.returns-then-b-gt122
-unfolding after_letters
-returns-then-b-gt122 c = simp (ne_eqb _ _ c.if-b-eq-TAB.false, le-leb _ _ c.if-b-lt97.false, lt-leb _ _ c.if-b-gt122.true)
-
-pub returns-then-high-lt-EIGHTH : goal.returns-then-high-lt-EIGHTH
-unfolding after_letters
-returns-then-high-lt-EIGHTH c =
+returns-in-97-to-122 c =
+    let b = c.args.b in
     simp (
-      c.wide.ensures,
-      ne_eqb _ _ c.if-b-eq-TAB.false,
-      le-leb _ _ c.if-b-lt97.false,
-      le-leb _ _ c.if-b-gt122.false,
-      lt-ltb _ _ c.if-high-lt-EIGHTH.true,
+      c.from.ensures,
+      ne_eqb b 9 (omega arith),
+      le-leb 97 b (omega arith),
+      le-leb b 122 (omega arith),
+      lt-ltb _ _ c.if-letters-lt-FULL.true,
     )
 
-pub returns : goal.returns
+pub returns-in_default : goal.returns-in_default
 unfolding after_letters
-returns c =
+returns-in_default c = let b = c.args.b in simp (ne_eqb b 9 (omega arith), lt-leb 97 b (omega arith))
+
+pub returns-in_default-2 : goal.returns-in_default-2
+unfolding after_letters
+returns-in_default-2 c =
+    let b = c.args.b in
     simp (
-      ne_eqb _ _ c.if-b-eq-TAB.false,
-      le-leb _ _ c.if-b-lt97.false,
-      le-leb _ _ c.if-b-gt122.false,
-      le-ltb _ _ c.if-high-lt-EIGHTH.false,
+      ne_eqb b 9 (omega arith),
+      le-leb 97 b (omega arith),
+      le-leb b 122 (omega arith),
+      le-ltb _ _ c.if-letters-lt-FULL.false,
     )
+
+pub returns-in_default-3 : goal.returns-in_default-3
+unfolding after_letters
+returns-in_default-3 c =
+    let b = c.args.b in
+    simp (ne_eqb b 9 (omega arith), le-leb 97 b (omega arith), lt-leb b 122 (omega arith))

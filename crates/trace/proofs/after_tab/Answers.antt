@@ -1,16 +1,17 @@
--- `trace::after_tab` meets its contract: each return is a case of the rule.
+-- `trace::after_tab` meets its contract: each arm is a case of the rule.
+use native.Mathlib.Omega.{arith}
 use borrow.Author.Tests.{le-leb, lt-leb}
 use Rattle.trace.specs.Machine.{after_tab}
 use Rattle.trace.proofs.after_tab.Goals as goal
 
-pub returns-then-b-lt48 : goal.returns-then-b-lt48
+pub returns-in-48-to-57 : goal.returns-in-48-to-57
 unfolding after_tab
-returns-then-b-lt48 c = simp (lt-leb _ _ c.if-b-lt48.true)
+returns-in-48-to-57 c = let b = c.args.b in simp (c.from.ensures, le-leb 48 b (omega arith), le-leb b 57 (omega arith))
 
-pub returns-then-b-gt57 : goal.returns-then-b-gt57
+pub returns-in_default : goal.returns-in_default
 unfolding after_tab
-returns-then-b-gt57 c = simp (le-leb _ _ c.if-b-lt48.false, lt-leb _ _ c.if-b-gt57.true)
+returns-in_default c = simp (lt-leb 48 c.args.b (omega arith))
 
-pub returns : goal.returns
+pub returns-in_default-2 : goal.returns-in_default-2
 unfolding after_tab
-returns c = simp (c.wide.ensures, le-leb _ _ c.if-b-lt48.false, le-leb _ _ c.if-b-gt57.false)
+returns-in_default-2 c = let b = c.args.b in simp (le-leb 48 b (omega arith), lt-leb b 57 (omega arith))
