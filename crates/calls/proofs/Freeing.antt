@@ -7,13 +7,13 @@ use lib.Dec.{eqb}
 use lib.ListN.{length, get_or}
 use Rattle.lists.specs.Tests.{first}
 use Rattle.tables.specs.Values.{address, opened, live_of, tables_of, at_entry, pool_of, empty_buffer}
-use Rattle.tables.specs.Choices.{chosen, Placed}
+use Rattle.cells.specs.Table.{chosen, Placed}
 use Rattle.tables.specs.Kept.{KeptPool}
 use Rattle.tables.specs.HandsBack.{refused, finished}
 use Rattle.tables.specs.Free.{free_steps, free_found, free}
 use Rattle.tables.specs.declared.Pool.{Pool}
-use Rattle.tables.specs.declared.Choice.{Choice}
-use Rattle.tables.specs.declared.Choice.TheVariants.{At, Nothing}
+use Rattle.cells.specs.Table.{Choice}
+use Rattle.std.specs.Prelude.{Some, None}
 use Rattle.tables.specs.declared.Outcome.TheVariants.{InvalidPointer}
 use Rattle.tables.proofs.Packs.{live-count}
 use Rattle.keeping.proofs.WellFormedEnters.{enters}
@@ -28,7 +28,7 @@ use Rattle.calls.proofs.Left.{replies-left}
 use Rattle.calls.proofs.Reading.{read_kept, read-tables, read-counter}
 
 module _ (p : Pool) (room : ℕ) (a : Admitted p room) (q : Pool) (e : q ≡ pool_of opened (at_entry p)) where
-  pub freeable : (i : ℕ) (c : Choice) → c ≡ At i → Placed (live_of q.live) c → Freeable i q.live q.free q.counter
+  pub freeable : (i : ℕ) (c : Choice) → c ≡ Some i → Placed (live_of q.live) c → Freeable i q.live q.free q.counter
   unfolding Placed
   freeable i c h w =
       let d = enters p a.state a.form in
@@ -61,15 +61,15 @@ module _ (p : Pool) (room : ℕ) (a : Admitted p room) (q : Pool) (e : q ≡ poo
         ∙ ap (free_found p start xs) (sym found)
 
     -- 16
-    pub free-none : c ≡ Nothing → free p start xs room ≡ refused p (InvalidPointer (address start))
+    pub free-none : c ≡ None → free p start xs room ≡ refused p (InvalidPointer (address start))
     unfolding free_found chosen
     free-none h = searched ∙ ap (λ z. free_found p start xs (chosen empty_buffer (live_of q.live) z)) h
 
-    free-some : (i : ℕ) → c ≡ At i →
+    free-some : (i : ℕ) → c ≡ Some i →
         free p start xs room ≡ finished p (free_steps (get_or (live_of q.live) i empty_buffer) xs 0 (at_entry p))
     unfolding free_found chosen
     free-some i h = searched ∙ ap (λ z. free_found p start xs (chosen empty_buffer (live_of q.live) z)) h
 
-    pub free-left : (i : ℕ) → c ≡ At i → {l : List ℕ} {f : Freed} {l' : List ℕ} → FreeRan i q.live q.free q.counter xs 0 l f l' → {r : Called} →
+    pub free-left : (i : ℕ) → c ≡ Some i → {l : List ℕ} {f : Freed} {l' : List ℕ} → FreeRan i q.live q.free q.counter xs 0 l f l' → {r : Called} →
         r ≡ leaving (record { value = p }) (stepped_in q f) → Replies (free p start xs room) r l l'
     free-left i h s w = replies-left (record { value = p }) (at_entry p) (read-tables p q opened e) (steps-ran s) (free-some i h) w

@@ -4,14 +4,18 @@ use Rattle.std.proofs.Math.Option.{Option, some, none}
 use Rattle.lists.specs.Cells.{packed, Filled}
 use Rattle.cells.specs.declared.Table.{Table}
 
+-- the place of an entry in a table, or none
+abbrev pub Choice : Type 0
+Choice = Place ℕ
+
 module _ {A : Type 0} where
   -- the element of `l` at the chosen place; `z` stands for none there
-  unfoldable pub chosen : A → List A → Place ℕ → Option A
+  unfoldable pub chosen : A → List A → Choice → Option A
   chosen z l (Some i) = some (get_or l i z)
   chosen z l None = none
 
   -- a chosen place is one of the list's
-  unfoldable pub Placed : List A → Place ℕ → Type 0
+  unfoldable pub Placed : List A → Choice → Type 0
   Placed l (Some i) = i < length l
   Placed l None = Unit {0}
 

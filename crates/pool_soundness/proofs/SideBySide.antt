@@ -18,10 +18,10 @@ use Rattle.lists.proofs.Copies.{turn-map, ends-map}
 use Rattle.tables.specs.Bounds.{END}
 use Rattle.tables.specs.Values.{free_of, live_of, holes_of, zombies_of}
 use Rattle.tables.specs.WellFormed.{Range}
-use Rattle.tables.specs.declared.FreeRegions.{FreeRegions}
-use Rattle.tables.specs.declared.LiveBuffers.{LiveBuffers}
-use Rattle.tables.specs.declared.Holes.{Holes}
-use Rattle.tables.specs.declared.Zombies.{Zombies}
+use Rattle.tables.specs.Values.{FreeRegions}
+use Rattle.tables.specs.Values.{LiveBuffers}
+use Rattle.tables.specs.Values.{Holes}
+use Rattle.tables.specs.Values.{Zombies}
 use Rattle.keeping.proofs.Ranges.{of_free, of_live, of_hole, of_zombie}
 use Rattle.pool_soundness.specs.declared.fronts.Front.{Front}
 use Rattle.pool_soundness.specs.Fronts.{front, highest, no_front, lower_of}

@@ -5,11 +5,11 @@ use Rattle.lists.specs.Order.{Ascends}
 use Rattle.tables.specs.Bounds.{END, HOLES, ROOTS, SPANS, VA, ZOMBIES}
 use Rattle.tables.specs.Values.{free_of, live_of, holes_of, zombies_of, roots_of}
 use Rattle.tables.specs.TakeRange.{apart}
-use Rattle.tables.specs.declared.FreeRegions.{FreeRegions}
-use Rattle.tables.specs.declared.LiveBuffers.{LiveBuffers}
-use Rattle.tables.specs.declared.Holes.{Holes}
-use Rattle.tables.specs.declared.Zombies.{Zombies}
-use Rattle.tables.specs.declared.Roots.{Roots}
+use Rattle.tables.specs.Values.{FreeRegions}
+use Rattle.tables.specs.Values.{LiveBuffers}
+use Rattle.tables.specs.Values.{Holes}
+use Rattle.tables.specs.Values.{Zombies}
+use Rattle.tables.specs.Values.{Roots}
 use Rattle.pool_soundness.specs.Tests.{roots_pass}
 
 -- the roots are as they must be

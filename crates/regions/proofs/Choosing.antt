@@ -10,11 +10,12 @@ use Rattle.lists.specs.Order.{least}
 use Rattle.lists.specs.Scan.{nothing, scan, found}
 use Rattle.lists.specs.declared.Best.{Best}
 use Rattle.lists.proofs.Least.{Scanned, scan-whole, scan-least, scan-placed}
+use Rattle.cells.specs.Table.{entries}
 use Rattle.tables.specs.Values.{free_of, empty_region}
-use Rattle.tables.specs.Choices.{chosen, Placed}
-use Rattle.tables.specs.declared.Choice.TheVariants.{At, Nothing}
+use Rattle.cells.specs.Table.{chosen, Placed}
+use Rattle.std.specs.Prelude.{Some, None}
 use Rattle.tables.specs.declared.FreeRegion.{FreeRegion}
-use Rattle.tables.specs.declared.FreeRegions.{FreeRegions}
+use Rattle.tables.specs.Values.{FreeRegions}
 use Rattle.regions.specs.Choosing.{place_of}
 
 module _ {A : Type 0} (l : List A) (b : Best) where
@@ -22,7 +23,7 @@ module _ {A : Type 0} (l : List A) (b : Best) where
   unfolding place_of chosen
   place_found z = go b.found
     where
-      go : (t : Bool) → chosen z l (cond t (At b.at) Nothing) ≡ cond t (some (get_or l b.at z)) none
+      go : (t : Bool) → chosen z l (cond t (Some b.at) None) ≡ cond t (some (get_or l b.at z)) none
       go true = refl
       go false = refl
 
@@ -30,7 +31,7 @@ module _ {A : Type 0} (l : List A) (b : Best) where
   unfolding place_of Placed
   place-placed = go b.found
     where
-      go : (t : Bool) → (t ≡ true → b.at < length l) → Placed l (cond t (At b.at) Nothing)
+      go : (t : Bool) → (t ≡ true → b.at < length l) → Placed l (cond t (Some b.at) None)
       go true h = h refl
       go false h = tt
 
@@ -38,7 +39,7 @@ module _ {A : Type 0} (l : List A) (b : Best) where
 module _ (key : FreeRegion → ℕ) (p : FreeRegion → Bool) (t : FreeRegions) (i : ℕ) (b : Best) where
   pub scan_chooses : t.count ≤ i → Scanned key p t.count t.cells i b →
       (chosen empty_region (free_of t) (place_of b) ≡ least key (filter p (free_of t))) × Placed (free_of t) (place_of b)
-  unfolding free_of
+  unfolding entries
   scan_chooses h s =
       let l = free_of t in
       let e : b ≡ scan key p 0 nothing l = scan-whole key p t.count t.cells i b h s in (

@@ -11,11 +11,12 @@ use Rattle.lists.proofs.Cells.{turn, ends}
 use Rattle.lists.proofs.Walks.{sum-filter}
 use Rattle.lists.proofs.Lowest.{foldr-min}
 use Rattle.lists.proofs.Compact.{Compact, compact-starts, compact-passes, compact_skips, compact-ends}
+use Rattle.cells.specs.Table.{entries, pack}
 use Rattle.tables.specs.Bounds.{SPANS}
 use Rattle.tables.specs.Values.{region, free_of, pack_free, empty_region}
 use Rattle.tables.specs.InsertFree.{from, bytes, merges, merged}
 use Rattle.tables.specs.declared.FreeRegion.{FreeRegion}
-use Rattle.tables.specs.declared.FreeRegions.{FreeRegions}
+use Rattle.tables.specs.Values.{FreeRegions}
 use Rattle.tables.proofs.Packs.{free-whole}
 use Rattle.regions.specs.Merging.{Splits}
 use Rattle.regions.specs.declared.Merging.{Merging}
@@ -37,7 +38,7 @@ module _ (a n s : ℕ) (t : FreeRegions) where
     pub all : n + bytes (filter near (free_of t)) ≡ size + bytes (filter near (drop i (free_of t)))
 
   pub split-starts : Split (pack_free []) a n 0
-  unfolding pack_free
+  unfolding pack
   split-starts = record { kept = compact-starts; least = refl; all = refl }
 
 -- A turn, at the region `x`.
@@ -46,7 +47,7 @@ module _ {a n s : ℕ} {t others : FreeRegions} {start size i : ℕ} (h : i < t.
   x = get_or t.cells i empty_region
 
   left : drop i (free_of t) ≡ x ∷ drop (i + 1) (free_of t)
-  unfolding free_of
+  unfolding entries
   left = turn t.count t.cells i empty_region h k
 
   module _ (e : merges a n s x ≡ true) where
@@ -74,7 +75,7 @@ module _ {a n s : ℕ} {t others : FreeRegions} {start size i : ℕ} (h : i < t.
       }
 
 pub split-ends : {a n s : ℕ} {t : FreeRegions} (m : Merging) {i : ℕ} → t.count ≤ i → Split a n s t m.others m.start.0 m.size i → Splits a n s (free_of t) m
-unfolding free_of
+unfolding entries
 split-ends {a} {n} {s} {t} m {i} h sp =
     let none : drop i (free_of t) ≡ [] = ends t.count t.cells i h in
     let far-all : free_of m.others ≡ filter (λ q. not (merges a n s q)) (free_of t) = compact-ends none sp.kept in

@@ -6,12 +6,12 @@ use Rattle.tables.specs.InsertFree.{from}
 use Rattle.tables.specs.Pull.{own_of}
 use Rattle.tables.specs.Fit.{candidates, smallest, on_stream}
 use Rattle.tables.specs.declared.FreeRegion.{FreeRegion}
-use Rattle.tables.specs.declared.Choice.{Choice}
-use Rattle.tables.specs.declared.Choice.TheVariants.{At, Nothing}
+use Rattle.cells.specs.Table.{Choice}
+use Rattle.std.specs.Prelude.{Some, None}
 
 -- the place of the best
 unfoldable pub place_of : Best → Choice
-place_of b = cond b.found (At b.at) Nothing
+place_of b = cond b.found (Some b.at) None
 
 -- at least `n` bytes, on stream `s`
 abbrev pub suits : ℕ → ℕ → FreeRegion → Bool

@@ -4,7 +4,7 @@ ghost use Rattle.lists.specs.Tests.{any, first};
 ghost use Rattle.lists.specs.Order.{without};
 ghost use Rattle.tables.specs.Bounds.{ROOTS};
 ghost use Rattle.tables.specs.Values.{roots_of};
-ghost use Rattle.tables.specs.Choices.{chosen, Placed};
+ghost use Rattle.cells.specs.Table.{chosen, Placed};
 ghost use Rattle.manager_rules.specs.Values.{SMALLS, small_of, pack_small, empty_small};
 ghost use Rattle.manager_rules.specs.Malloc.{in_roots};
 

@@ -16,10 +16,10 @@ use Rattle.tables.specs.InsertHole.{insert_hole}
 use Rattle.tables.specs.Steps.{Ending, on, ends}
 use Rattle.tables.specs.Driver.{driver, try, unmap}
 use Rattle.tables.specs.Cleanup.{clean}
-use Rattle.tables.specs.declared.Holes.{Holes}
+use Rattle.tables.specs.Values.{Holes}
 use Rattle.tables.specs.declared.Outcome.{Outcome}
 use Rattle.tables.specs.declared.Zombie.{Zombie}
-use Rattle.tables.specs.declared.Zombies.{Zombies}
+use Rattle.tables.specs.Values.{Zombies}
 use Rattle.tables.proofs.Packs.{holes_pack, zombies-count, zombies_pack, zombies_cell}
 use Rattle.driving.specs.Ran.{Ran, Drove, point}
 use Rattle.step_cleanup.specs.Promises.{cleaning, Cleanable}

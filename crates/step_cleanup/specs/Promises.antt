@@ -3,8 +3,8 @@ use Rattle.std.specs.Prelude.{List, ℕ, ◌+◌, ◌*◌, ◌≤◌}
 use Rattle.tables.specs.Values.{Tables, holes_of, zombies_of, with_holes, with_zombies}
 use Rattle.tables.specs.Kept.{KeptHoles, KeptZombies}
 use Rattle.tables.specs.Cleanup.{cleanup}
-use Rattle.tables.specs.declared.Holes.{Holes}
-use Rattle.tables.specs.declared.Zombies.{Zombies}
+use Rattle.tables.specs.Values.{Holes}
+use Rattle.tables.specs.Values.{Zombies}
 use Rattle.keeping.specs.Sound.{Kept}
 use Rattle.driving.specs.Ran.{Ran, point}
 use Rattle.driving.specs.Endings.{ending}

@@ -12,13 +12,14 @@ use Rattle.lists.specs.declared.Best.{Best}
 use Rattle.lists.proofs.Cells.{turn, ends as none_after}
 use Rattle.lists.proofs.Filled.{filled-length}
 use Rattle.lists.proofs.Least.{lesser, lesser-none, lesser_assoc, Marks, marks-better, found-better}
+use Rattle.cells.specs.Table.{entries}
 use Rattle.tables.specs.Values.{free_of, empty_region}
 use Rattle.tables.specs.Kept.{KeptFree}
 use Rattle.tables.specs.Steps.{Ending, on, ends, Step, ◌>>=◌, give}
 use Rattle.tables.specs.Driver.{is_complete}
 use Rattle.tables.specs.Fit.{candidates, ask_all, smallest}
 use Rattle.tables.specs.declared.FreeRegion.{FreeRegion}
-use Rattle.tables.specs.declared.FreeRegions.{FreeRegions}
+use Rattle.tables.specs.Values.{FreeRegions}
 use Rattle.tables.specs.declared.Outcome.{Outcome}
 use Rattle.tables.proofs.Packs.{free_cell}
 use Rattle.driving.specs.Ran.{Ran, Point}
@@ -67,7 +68,7 @@ module _ (f : FreeRegions) {i : ℕ} (k : KeptFree f) (h : i < f.count) where
   here = free_cell f i h
 
   left : drop i (free_of f) ≡ get_or f.cells i empty_region ∷ drop (i + 1) (free_of f)
-  unfolding free_of
+  unfolding entries
   left = turn f.count f.cells i empty_region h (omega (arith, filled-length k, k.most))
 
   pub turn_marks : (b : Best) → Marks (λ q. q.size) empty_region (free_of f) i b →
@@ -105,5 +106,5 @@ module _ (f : FreeRegions) {i : ℕ} (k : KeptFree f) (h : i < f.count) where
           rw (left, le-leb n it.size large) (search-next (found empty_region (free_of f) b) it (candidates n (drop (i + 1) (free_of f))) false asked r)
 
 pub none_left : (f : FreeRegions) (i : ℕ) → f.count ≤ i → drop i (free_of f) ≡ []
-unfolding free_of
+unfolding entries
 none_left f i h = none_after f.count f.cells i h

@@ -4,12 +4,12 @@ use Rattle.std.proofs.Math.Option.{Option}
 use Rattle.lists.specs.Order.{Rises}
 use Rattle.tables.specs.Values.{Tables, free_of, with_free, empty_region}
 use Rattle.tables.specs.Kept.{KeptFree}
-use Rattle.tables.specs.Choices.{chosen, Placed}
+use Rattle.cells.specs.Table.{chosen, Placed}
 use Rattle.tables.specs.Steps.{Ending, Step, ◌>>=◌, give}
 use Rattle.tables.specs.InsertFree.{from}
 use Rattle.tables.specs.Fit.{candidates, smallest, ask_all}
 use Rattle.tables.specs.declared.FreeRegion.{FreeRegion}
-use Rattle.tables.specs.declared.FreeRegions.{FreeRegions}
+use Rattle.tables.specs.Values.{FreeRegions}
 use Rattle.driving.specs.Ran.{Ran, point}
 use Rattle.driving.specs.Endings.{ending_with}
 use Rattle.step_fit.specs.declared.Fitted.{Fitted}

@@ -11,9 +11,9 @@ use Rattle.lists.proofs.Tests.{length-filter}
 use Rattle.lists.proofs.Members.{member-at}
 use Rattle.tables.specs.Values.{live_of, pack_live, tables_of, empty_buffer}
 use Rattle.tables.specs.Kept.{KeptFree, KeptPool}
-use Rattle.tables.specs.declared.FreeRegions.{FreeRegions}
+use Rattle.tables.specs.Values.{FreeRegions}
 use Rattle.tables.specs.declared.LiveBuffer.{LiveBuffer}
-use Rattle.tables.specs.declared.LiveBuffers.{LiveBuffers}
+use Rattle.tables.specs.Values.{LiveBuffers}
 use Rattle.tables.specs.declared.Pool.{Pool}
 use Rattle.tables.proofs.Packs.{free-count, live-count, live-kept}
 use Rattle.keeping.proofs.FreeCall.{inserting}

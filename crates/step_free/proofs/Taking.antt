@@ -10,18 +10,19 @@ use Rattle.lists.proofs.Keys.{without_key}
 use Rattle.lists.proofs.Places.{length-remove_at}
 use Rattle.lists.proofs.Cells.{removed}
 use Rattle.lists.proofs.Filled.{filled-count}
+use Rattle.cells.specs.Table.{entries, pack}
 use Rattle.tables.specs.Bounds.{SPANS}
 use Rattle.tables.specs.Values.{live_of, pack_live, empty_buffer}
 use Rattle.tables.specs.Kept.{KeptLive}
 use Rattle.tables.specs.declared.LiveBuffer.{LiveBuffer}
-use Rattle.tables.specs.declared.LiveBuffers.{LiveBuffers}
+use Rattle.tables.specs.Values.{LiveBuffers}
 use Rattle.tables.proofs.Packs.{live-count, live_cell}
 
 module _ (b : LiveBuffers) (i : ℕ) (k : KeptLive b) (h : i < b.count) where
   -- the place that the loop freed at the end is cleared
   shifted : (out : List LiveBuffer) → length out ≡ SPANS → remove_at (b.count - 1) out ≡ remove_at i b.cells →
       record { cells = set out (b.count - 1) empty_buffer; count = b.count - 1 } ≡ pack_live (remove_at i (live_of b))
-  unfolding live_of pack_live
+  unfolding entries pack
   shifted out e s =
       let l = live_of b in
       let n : b.count ≡ length l = filled-count k in

@@ -8,9 +8,9 @@ use Rattle.tables.specs.Values.{Tables, live_of, pack_live, tables_of, with_live
 use Rattle.tables.specs.InsertFree.{insert_free}
 use Rattle.tables.specs.Free.{free_steps}
 use Rattle.tables.specs.declared.FreeRegion.{FreeRegion}
-use Rattle.tables.specs.declared.FreeRegions.{FreeRegions}
+use Rattle.tables.specs.Values.{FreeRegions}
 use Rattle.tables.specs.declared.LiveBuffer.{LiveBuffer}
-use Rattle.tables.specs.declared.LiveBuffers.{LiveBuffers}
+use Rattle.tables.specs.Values.{LiveBuffers}
 use Rattle.tables.specs.declared.Outcome.{Outcome}
 use Rattle.tables.specs.declared.Outcome.TheVariants.{Freed}
 use Rattle.tables.proofs.Packs.{live_pack, live_cell}

@@ -5,8 +5,8 @@ use Rattle.tables.specs.Values.{live_of, tables_of, empty_buffer}
 use Rattle.tables.specs.Kept.{KeptPool}
 use Rattle.tables.specs.HandsBack.{outcome_of}
 use Rattle.tables.specs.Free.{free_steps}
-use Rattle.tables.specs.declared.FreeRegions.{FreeRegions}
-use Rattle.tables.specs.declared.LiveBuffers.{LiveBuffers}
+use Rattle.tables.specs.Values.{FreeRegions}
+use Rattle.tables.specs.Values.{LiveBuffers}
 use Rattle.tables.specs.declared.Outcome.{Outcome}
 use Rattle.tables.specs.declared.Outcome.TheVariants as outcomes
 use Rattle.tables.specs.declared.Pool.{Pool}

@@ -4,8 +4,8 @@ use Rattle.tables.specs.Values.{Tables, free_of, live_of, with_free, with_live}
 use Rattle.tables.specs.Kept.{KeptFree, KeptLive}
 use Rattle.tables.specs.Steps.{on}
 use Rattle.tables.specs.Malloc.{hand_over}
-use Rattle.tables.specs.declared.FreeRegions.{FreeRegions}
-use Rattle.tables.specs.declared.LiveBuffers.{LiveBuffers}
+use Rattle.tables.specs.Values.{FreeRegions}
+use Rattle.tables.specs.Values.{LiveBuffers}
 use Rattle.tables.specs.declared.Outcome.TheVariants.{Allocated}
 use Rattle.keeping.specs.Malloc.{Handing}
 use Rattle.regions.specs.Cutting.{region_at}

@@ -7,7 +7,7 @@ use Rattle.tables.specs.Kept.{KeptFree}
 use Rattle.tables.specs.Steps.{Ending}
 use Rattle.tables.specs.InsertFree.{upto, bytes, insert_free}
 use Rattle.tables.specs.declared.FreeRegion.{FreeRegion}
-use Rattle.tables.specs.declared.FreeRegions.{FreeRegions}
+use Rattle.tables.specs.Values.{FreeRegions}
 use Rattle.driving.specs.Ran.{Ran, point}
 use Rattle.driving.specs.Endings.{ending_with}
 use Rattle.step_insert_free.specs.declared.FreeInserted.{FreeInserted}

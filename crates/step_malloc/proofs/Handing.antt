@@ -15,7 +15,7 @@ use Rattle.tables.specs.Values.{tables_of, free_of, empty_region}
 use Rattle.tables.specs.Kept.{KeptFree, KeptPool}
 use Rattle.tables.specs.InsertFree.{from}
 use Rattle.tables.specs.declared.FreeRegion.{FreeRegion}
-use Rattle.tables.specs.declared.FreeRegions.{FreeRegions}
+use Rattle.tables.specs.Values.{FreeRegions}
 use Rattle.tables.specs.declared.Pool.{Pool}
 use Rattle.tables.specs.declared.Outcome.TheVariants.{Allocated}
 use Rattle.tables.proofs.Packs.{free-count}

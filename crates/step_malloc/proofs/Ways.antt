@@ -14,14 +14,14 @@ use Rattle.tables.specs.Cleanup.{cleanup}
 use Rattle.tables.specs.Fit.{fit}
 use Rattle.tables.specs.Malloc.{or_room, malloc_steps}
 use Rattle.tables.specs.declared.FreeRegion.{FreeRegion}
-use Rattle.tables.specs.declared.FreeRegions.{FreeRegions}
-use Rattle.tables.specs.declared.Holes.{Holes}
-use Rattle.tables.specs.declared.Zombies.{Zombies}
+use Rattle.tables.specs.Values.{FreeRegions}
+use Rattle.tables.specs.Values.{Holes}
+use Rattle.tables.specs.Values.{Zombies}
 use Rattle.tables.specs.declared.Pool.{Pool}
-use Rattle.tables.specs.declared.Choice.TheVariants.{At, Nothing}
+use Rattle.std.specs.Prelude.{Some, None}
 use Rattle.tables.specs.declared.Outcome.{Outcome}
 use Rattle.tables.specs.declared.Outcome.TheVariants.{Allocated}
-use Rattle.tables.proofs.Choices.{chosen-some, chosen_none, placed_at}
+use Rattle.cells.proofs.Choices.{chosen-some, chosen_none, placed_at}
 use Rattle.tables.proofs.Packs.{free-count, zombies-count}
 use Rattle.keeping.proofs.Cleanup.{cleans_up}
 use Rattle.keeping.proofs.Fit.{Fitting, fits}
@@ -174,7 +174,7 @@ module _ {n : ℕ} {p : Pool} (g : Mallocable n p) where
         fit_on o e = rw (h, e) at fit-ran
 
         -- nothing fits
-        module _ (e : b.fit ≡ Nothing) where
+        module _ (e : b.fit ≡ None) where
           none_found : found b ≡ none
           none_found = chosen_none empty_region (free_of b.free) b.fit _ refl e
 
@@ -205,7 +205,7 @@ module _ {n : ℕ} {p : Pool} (g : Mallocable n p) where
               }
 
         -- the region at the place `i` fits
-        module _ (i : ℕ) (e : b.fit ≡ At i) where
+        module _ (i : ℕ) (e : b.fit ≡ Some i) where
           some-found : found b ≡ some (region_at b.free i)
           some-found = chosen-some empty_region (free_of b.free) b.fit _ refl i e
 

@@ -22,8 +22,8 @@ use Rattle.tables.specs.Kept.{KeptPages}
 use Rattle.tables.specs.NewPages.{at}
 use Rattle.tables.specs.Pull.{starts, pages_in, handle_at}
 use Rattle.tables.specs.declared.Zombie.{Zombie}
-use Rattle.tables.specs.declared.Zombies.{Zombies}
-use Rattle.tables.specs.declared.Pages.{Pages}
+use Rattle.tables.specs.Values.{Zombies}
+use Rattle.tables.specs.Values.{Pages}
 use Rattle.tables.proofs.Packs.{pages_pack, pages-kept, pages-count}
 use Rattle.keeping.specs.Cover.{within, cover_zombies}
 use Rattle.keeping.specs.Sound.{WholeRange}

@@ -11,13 +11,14 @@ use Rattle.lists.proofs.Filled.{filled-count}
 use Rattle.words.specs.Words.{line}
 use Rattle.words.specs.Answers.{code_of}
 use Rattle.words.specs.declared.Word.TheVariants.{Map}
+use Rattle.cells.specs.Table.{entries}
 use Rattle.tables.specs.Values.{page, zombies_of, with_pages, empty_zombie}
 use Rattle.tables.specs.Kept.{KeptZombies}
 use Rattle.tables.specs.Steps.{Ending, on, ends, Act}
 use Rattle.tables.specs.Driver.{driver, must, map}
 use Rattle.tables.specs.NewPages.{at, map_page}
 use Rattle.tables.specs.Pull.{starts, handle_at, move_pages}
-use Rattle.tables.specs.declared.Zombies.{Zombies}
+use Rattle.tables.specs.Values.{Zombies}
 use Rattle.tables.specs.declared.Outcome.{Outcome}
 use Rattle.tables.proofs.Packs.{zombies-count}
 use Rattle.driving.specs.Ran.{Ran, Point, point}
@@ -46,7 +47,7 @@ mul-more (suc k) p h =
 -- the first of the zombies from a place on
 module _ (z : Zombies) (i : ℕ) (k : KeptZombies z) where
   pub pulled-more : i < z.count → pulled i z ≡ get_or z.cells i empty_zombie ∷ pulled (i + 1) z
-  unfolding zombies_of
+  unfolding entries
   pulled-more h =
       let e : i + 1 ≡ suc i = omega arith in
       rw (e, ← get_or-take z.count z.cells i empty_zombie h)

@@ -7,8 +7,8 @@ use Rattle.tables.specs.Steps.{Ending, ends}
 use Rattle.tables.specs.Pull.{starts, pages_in, move_pages}
 use Rattle.tables.specs.declared.Outcome.{Outcome}
 use Rattle.tables.specs.declared.Zombie.{Zombie}
-use Rattle.tables.specs.declared.Zombies.{Zombies}
-use Rattle.tables.specs.declared.Pages.{Pages}
+use Rattle.tables.specs.Values.{Zombies}
+use Rattle.tables.specs.Values.{Pages}
 use Rattle.keeping.specs.Sound.{WholeRange}
 use Rattle.keeping.specs.Move.{Movable, Moving}
 use Rattle.driving.specs.Ran.{Ran, Point, point}

@@ -12,8 +12,8 @@ use Rattle.tables.specs.Kept.{KeptHoles, KeptPages}
 use Rattle.tables.specs.Steps.{Ending, on, ends}
 use Rattle.tables.specs.NewPages.{new_pages, map_page, make_pages}
 use Rattle.tables.proofs.Packs.{pages-count}
-use Rattle.tables.specs.declared.Pages.{Pages}
-use Rattle.tables.specs.declared.Holes.{Holes}
+use Rattle.tables.specs.Values.{Pages}
+use Rattle.tables.specs.Values.{Holes}
 use Rattle.tables.specs.declared.Outcome.{Outcome}
 use Rattle.driving.specs.Ran.{Point, point, Ran}
 use Rattle.keeping.specs.MakeRoom.{PagesTo}

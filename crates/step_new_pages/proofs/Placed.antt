@@ -17,12 +17,13 @@ use Rattle.lists.proofs.Order.{put_is}
 use Rattle.lists.proofs.Keys.{rises-at}
 use Rattle.lists.proofs.Cells.{inserted}
 use Rattle.lists.proofs.Filled.{filled-length, filled-count}
+use Rattle.cells.specs.Table.{entries, pack}
 use Rattle.tables.specs.Bounds.{PAGES}
 use Rattle.tables.specs.Values.{page, pages_of, pack_pages, empty_page}
 use Rattle.tables.specs.Kept.{KeptPages}
 use Rattle.tables.specs.NewPages.{at}
 use Rattle.tables.specs.declared.Page.{Page}
-use Rattle.tables.specs.declared.Pages.{Pages}
+use Rattle.tables.specs.Values.{Pages}
 use Rattle.tables.proofs.Packs.{pages-count}
 
 module _ {A : Type 0} where
@@ -83,7 +84,7 @@ module _ (a : ℕ) (t : Pages) (k : KeptPages t) where
       last = get_or out.cells (p - 1) empty_page
 
       last-is : last ≡ get_or (pages_of t) (p - 1) empty_page
-      unfolding pages_of
+      unfolding entries
       last-is = kept-below out.cells t.cells p t.count (p - 1) empty_page (omega arith) w.within w.same
 
       pub moves-one : a ≤ at last → Moved a t (record { cells = set out.cells p last; count = out.count }) (p - 1)
@@ -104,7 +105,7 @@ module _ (a : ℕ) (t : Pages) (k : KeptPages t) where
           omega (arith, less, w.reaches)
 
     pub put-there : (h : ℕ) → p ≡ place_of a t → record { cells = set out.cells p (page a h); count = out.count + 1 } ≡ pack_pages (put at (page a h) (pages_of t))
-    unfolding pages_of pack_pages
+    unfolding entries pack
     put-there h e =
         let l = pages_of t in
         let n : t.count ≡ length l = filled-count k in

@@ -8,13 +8,14 @@ use lib.ListN.{length, get_or, drop}
 use Rattle.lists.specs.Order.{Rises}
 use Rattle.lists.proofs.Cells.{turn, ends}
 use Rattle.lists.proofs.Filled.{filled-length}
+use Rattle.cells.specs.Table.{entries}
 use Rattle.tables.specs.Values.{Tables, pages_of, empty_page}
 use Rattle.tables.specs.Kept.{KeptPages}
 use Rattle.tables.specs.Steps.{Ending, each}
 use Rattle.tables.specs.NewPages.{at, unmake, new_pages}
 use Rattle.tables.specs.declared.Page.{Page}
-use Rattle.tables.specs.declared.Pages.{Pages}
-use Rattle.tables.specs.declared.Holes.{Holes}
+use Rattle.tables.specs.Values.{Pages}
+use Rattle.tables.specs.Values.{Holes}
 use Rattle.driving.specs.Ran.{Point, point, Ran}
 use Rattle.step_new_pages.specs.Promises.{room_of, is_new, paging}
 use Rattle.step_new_pages.specs.declared.Room.{Room}
@@ -25,15 +26,15 @@ new_from o a i t = new_pages (room_of o) a (drop i (pages_of t))
 
 module _ (o : Room) (a i : ℕ) (t : Pages) (k : KeptPages t) (h : i < t.count) where
   pub page-new : is_new o a (get_or t.cells i empty_page) ≡ true → new_from o a i t ≡ get_or t.cells i empty_page ∷ new_from o a (i + 1) t
-  unfolding pages_of
+  unfolding entries
   page-new e = rw (turn t.count t.cells i empty_page h (omega (arith, filled-length k, k.most)), e)
 
   pub page_old : is_new o a (get_or t.cells i empty_page) ≡ false → new_from o a i t ≡ new_from o a (i + 1) t
-  unfolding pages_of
+  unfolding entries
   page_old e = rw (turn t.count t.cells i empty_page h (omega (arith, filled-length k, k.most)), e)
 
 pub no_more : (o : Room) (a i : ℕ) (t : Pages) → t.count ≤ i → new_from o a i t ≡ []
-unfolding pages_of
+unfolding entries
 no_more o a i t h = rw (ends t.count t.cells i h)
 
 -- The pages at entry are `g`, and `rest` are those that are not unmade yet; `n` driver calls are made, `k` of them before the first page.

@@ -7,8 +7,8 @@ use Rattle.tables.specs.Kept.{KeptHoles, KeptPages}
 use Rattle.tables.specs.InsertHole.{Apart, insert_hole}
 use Rattle.tables.specs.NewPages.{Room as Taken, at, unmake, new_pages, roll_back, make_pages}
 use Rattle.tables.specs.declared.Page.{Page}
-use Rattle.tables.specs.declared.Pages.{Pages}
-use Rattle.tables.specs.declared.Holes.{Holes}
+use Rattle.tables.specs.Values.{Pages}
+use Rattle.tables.specs.Values.{Holes}
 use Rattle.tables.specs.declared.Outcome.{Outcome}
 use Rattle.driving.specs.Ran.{Ran, RoomFor, point}
 use Rattle.driving.specs.Endings.{ending}

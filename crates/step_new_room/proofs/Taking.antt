@@ -11,8 +11,8 @@ use Rattle.tables.specs.Malloc.{no_hole}
 use Rattle.tables.specs.TakeRange.{smallest_hole, take_range}
 use Rattle.tables.specs.NewPages.{make_pages}
 use Rattle.tables.specs.declared.Pool.{Pool}
-use Rattle.tables.specs.declared.Pages.{Pages}
-use Rattle.tables.specs.declared.Holes.{Holes}
+use Rattle.tables.specs.Values.{Pages}
+use Rattle.tables.specs.Values.{Holes}
 use Rattle.tables.specs.declared.Outcome.{Outcome}
 use Rattle.tables.proofs.Packs.{holes-count, roots-count}
 use Rattle.driving.specs.Ran.{Ran, RoomFor, point}

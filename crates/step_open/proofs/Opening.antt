@@ -4,6 +4,7 @@ use mathlib.Core.Logic.{inl}
 use mathlib.Core.List.{List}
 use Prim.Native.Nat.{ℕ, ◌+◌, ◌-◌, ◌*◌, ◌/◌, ◌<◌}
 use native.Mathlib.Omega.{arith}
+use Rattle.cells.specs.Table.{entries, pack}
 use Rattle.tables.specs.Bounds.{ROOTS}
 use Rattle.tables.specs.Values.{Tables, tables_of, free_of, pack_free, pack_holes, pack_roots, opened, pool_of, no_tables}
 use Rattle.tables.specs.Kept.{KeptPool}
@@ -57,15 +58,15 @@ module _ {page va initial : ℕ} {p : Pool} (c : Configured page va initial) (ba
   first_id = ap (λ q. q.counter) bare
 
   no_holes : p.holes.count ≡ 0
-  unfolding pool_of pack_holes
+  unfolding pool_of pack
   no_holes = ap (λ q. q.holes.count) bare
 
   no-roots : p.roots.count ≡ 0
-  unfolding pool_of pack_roots
+  unfolding pool_of pack
   no-roots = ap (λ q. q.roots.count) bare
 
   nothing-free : free_bytes p ≡ 0
-  unfolding pool_of pack_free free_of
+  unfolding pool_of pack entries
   nothing-free = ap free_bytes bare
 
   -- What `reserve_root` needs.

@@ -13,17 +13,17 @@ use Rattle.tables.specs.Bounds.{END, SPANS, ZOMBIES}
 use Rattle.tables.specs.Values.{Tables, free_of, pack_free, zombies_of, pack_zombies, with_free, empty_region}
 use Rattle.tables.specs.Kept.{KeptFree, KeptZombies}
 use Rattle.tables.specs.Steps.{Ending, on, ends}
-use Rattle.tables.specs.Choices.{Placed}
+use Rattle.cells.specs.Table.{Placed}
 use Rattle.tables.specs.InsertFree.{from, upto, put_rest, without_free}
 use Rattle.tables.specs.Pull.{pull_order, pull}
 use Rattle.tables.specs.declared.FreeRegion.{FreeRegion}
-use Rattle.tables.specs.declared.FreeRegions.{FreeRegions}
+use Rattle.tables.specs.Values.{FreeRegions}
 use Rattle.tables.specs.declared.Zombie.{Zombie}
-use Rattle.tables.specs.declared.Zombies.{Zombies}
-use Rattle.tables.specs.declared.Choice.{Choice}
-use Rattle.tables.specs.declared.Choice.TheVariants.{At}
+use Rattle.tables.specs.Values.{Zombies}
+use Rattle.cells.specs.Table.{Choice}
+use Rattle.std.specs.Prelude.{Some}
 use Rattle.tables.specs.declared.Outcome.{Outcome}
-use Rattle.tables.proofs.Choices.{placed_at}
+use Rattle.cells.proofs.Choices.{placed_at}
 use Rattle.tables.proofs.Packs.{free-count, free-kept, free_pack, zombies-count, zombies-kept, zombies_pack, zombies-packed-count}
 use Rattle.keeping.specs.Cover.{within, cover_free}
 use Rattle.keeping.specs.Sound.{WholeRange}
@@ -200,5 +200,5 @@ module _ {s lacks : ℕ} {made : Made} {xs : List ℕ} {f₀ : FreeRegions} {z�
       due-again e q part y f' a z' b = rw (a, b, y) (due-next e q)
 
 -- a place that `next_to_pull` chose is below the count
-pub place-below : (f : FreeRegions) (c : Choice) (i : ℕ) → KeptFree f → Placed (free_of f) c → c ≡ At i → i < f.count
+pub place-below : (f : FreeRegions) (c : Choice) (i : ℕ) → KeptFree f → Placed (free_of f) c → c ≡ Some i → i < f.count
 place-below f c i k p e = omega (arith, placed_at (free_of f) c i p e, free-count f k)

@@ -6,9 +6,9 @@ use Rattle.tables.specs.Kept.{KeptFree, KeptZombies}
 use Rattle.tables.specs.InsertFree.{from}
 use Rattle.tables.specs.Pull.{pull_order, settle, pull}
 use Rattle.tables.specs.declared.FreeRegion.{FreeRegion}
-use Rattle.tables.specs.declared.FreeRegions.{FreeRegions}
+use Rattle.tables.specs.Values.{FreeRegions}
 use Rattle.tables.specs.declared.Zombie.{Zombie}
-use Rattle.tables.specs.declared.Zombies.{Zombies}
+use Rattle.tables.specs.Values.{Zombies}
 use Rattle.keeping.specs.Pull.{Pulling}
 use Rattle.regions.specs.Pulling.{besides}
 use Rattle.regions.specs.declared.Made.{Made}

@@ -14,8 +14,8 @@ use Rattle.tables.specs.Values.{holes_of, pack_holes, roots_of, pack_roots}
 use Rattle.tables.specs.Kept.{KeptHoles, KeptRoots}
 use Rattle.tables.specs.InsertHole.{insert_hole}
 use Rattle.tables.specs.TakeRange.{cut_hole, credible_for}
-use Rattle.tables.specs.declared.Holes.{Holes}
-use Rattle.tables.specs.declared.Roots.{Roots}
+use Rattle.tables.specs.Values.{Holes}
+use Rattle.tables.specs.Values.{Roots}
 use Rattle.tables.proofs.Packs.{holes-count, holes-kept, roots-count, roots_kept}
 use Rattle.keeping.proofs.Holes.{length-hole, length-cut_hole}
 use Rattle.step_take_range.specs.Promises.{Takeable}

@@ -8,8 +8,8 @@ use Rattle.tables.specs.Kept.{KeptHoles, KeptRoots}
 use Rattle.tables.specs.Steps.{Ending, Step}
 use Rattle.tables.specs.TakeRange.{smallest_hole}
 use Rattle.tables.specs.Malloc.{no_hole}
-use Rattle.tables.specs.declared.Holes.{Holes}
-use Rattle.tables.specs.declared.Roots.{Roots}
+use Rattle.tables.specs.Values.{Holes}
+use Rattle.tables.specs.Values.{Roots}
 use Rattle.tables.specs.declared.Outcome.TheVariants.{ReserveFailed, AnswersRanOut}
 use Rattle.keeping.specs.Sound.{Kept}
 use Rattle.driving.specs.Ran.{Ran, point}

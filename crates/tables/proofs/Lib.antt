@@ -1,5 +1,4 @@
 pub mod Packs
-pub mod Choices
 pub mod Apart
 pub mod AToN
 pub mod Beyond

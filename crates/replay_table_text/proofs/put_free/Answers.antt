@@ -4,6 +4,7 @@ use native.Mathlib.Omega.{arith}
 use borrow.Author.Rules.{rules}
 use lib.ListN.{length}
 use Rattle.lists.proofs.Tests.{length-mapped}
+use Rattle.cells.specs.Table.{entries}
 use Rattle.tables.specs.Bounds.{SPANS}
 use Rattle.tables.specs.Values.{free_of, empty_region}
 use Rattle.replay_table_text.specs.Tables.{free_entry}
@@ -20,7 +21,7 @@ loop-i-preserved c =
     one_more c.loop-i.invariant empty_region c.loop-i-test.true (omega (arith, c.within-count.ensures, size)) c.put_entry-next.ensures
 
 pub returns : goal.returns
-unfolding free_of
+unfolding entries
 returns c =
     let size : length c.args.t.cells ≡ SPANS = search (rules, length-mapped) in
     all-put c.loop-i.invariant SPANS c.args.t.count size c.within-count.ensures c.loop-i-test.false

@@ -2,6 +2,7 @@
 use mathlib.Core.Path.{◌≡◌}
 use native.Mathlib.Omega.{arith}
 use borrow.Author.Tests.{eq-eqb, ne_eqb}
+use Rattle.cells.specs.Table.{entries}
 use Rattle.tables.specs.Values.{tables_of}
 use Rattle.tables.specs.declared.Pool.{Pool}
 use Rattle.replay_table_text.specs.Tables.{counter_entry, none_entry, entries, tables_text}

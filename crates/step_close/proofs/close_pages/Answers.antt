@@ -5,12 +5,13 @@ use Prim.Native.Nat.{◌+◌}
 use native.Mathlib.Omega.{arith}
 use borrow.Author.Rules.{rules}
 use lib.ListN.{get_or, drop}
+use Rattle.cells.specs.Table.{entries}
 use Rattle.tables.specs.Values.{page as no_page, pages_of}
 use Rattle.step_close.proofs.Turns.{not-ends, some_left, none_left, leads_done, leads-next, leads-stop}
 use Rattle.step_close.proofs.close_pages.Goals as goal
 
 pub returns-in_default : goal.returns-in_default
-unfolding pages_of
+unfolding entries
 returns-in_default c =
     let t = c.args.pages in
     let i = c.loop-i.i in
@@ -25,7 +26,7 @@ returns-in_default c =
     }
 
 pub loop-i-preserved : goal.loop-i-preserved
-unfolding pages_of
+unfolding entries
 loop-i-preserved c =
     let t = c.args.pages in
     let i = c.loop-i.i in
@@ -40,7 +41,7 @@ loop-i-preserved c =
     )
 
 pub returns : goal.returns
-unfolding pages_of
+unfolding entries
 returns c =
     record {
       ran = leads_done (none_left c.requires.0 c.loop-i.i (omega (arith, c.loop-i-test.false))) c.loop-i.invariant.4;

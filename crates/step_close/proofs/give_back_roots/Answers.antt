@@ -5,13 +5,14 @@ use Prim.Native.Nat.{◌+◌}
 use native.Mathlib.Omega.{arith}
 use borrow.Author.Rules.{rules}
 use lib.ListN.{get_or, drop}
+use Rattle.cells.specs.Table.{entries}
 use Rattle.tables.specs.Values.{address, roots_of}
 use Rattle.tables.specs.Driver.{giveback}
 use Rattle.step_close.proofs.Turns.{not-ends, some_left, none_left, leads_done, leads-next, leads-stop}
 use Rattle.step_close.proofs.give_back_roots.Goals as goal
 
 pub returns-in_default : goal.returns-in_default
-unfolding giveback roots_of
+unfolding giveback entries
 returns-in_default c =
     let t = c.args.roots in
     let i = c.loop-i.i in
@@ -26,7 +27,7 @@ returns-in_default c =
     }
 
 pub loop-i-preserved : goal.loop-i-preserved
-unfolding giveback roots_of
+unfolding giveback entries
 loop-i-preserved c =
     let t = c.args.roots in
     let i = c.loop-i.i in
@@ -41,7 +42,7 @@ loop-i-preserved c =
     )
 
 pub returns : goal.returns
-unfolding roots_of
+unfolding entries
 returns c =
     record {
       ran = leads_done (none_left c.requires.0 c.loop-i.i (omega (arith, c.loop-i-test.false))) c.loop-i.invariant.4;

@@ -5,10 +5,10 @@ use Prim.Native.Nat.{◌<◌}
 use native.Mathlib.Omega.{arith}
 use lib.ListN.{length, get_or}
 use Rattle.tables.specs.Values.{free_of, empty_region}
-use Rattle.tables.specs.Choices.{chosen, Placed}
+use Rattle.cells.specs.Table.{chosen, Placed}
 use Rattle.tables.specs.Pull.{own_of}
 use Rattle.tables.specs.Fit.{candidates, smallest}
-use Rattle.tables.proofs.Choices.{chosen-some, chosen_none, placed_at}
+use Rattle.cells.proofs.Choices.{chosen-some, chosen_none, placed_at}
 use Rattle.step_fit.proofs.Ways.{fit-own, fit-other}
 use Rattle.step_fit.proofs.fit.Goals as goal
 

@@ -6,11 +6,11 @@ use native.Mathlib.Omega.{arith}
 use lib.ListN.{length, get_or, length-map}
 use Rattle.tables.specs.Values.{free_of, pack_free, empty_region}
 use Rattle.tables.specs.Kept.{KeptFree}
-use Rattle.tables.specs.Choices.{chosen, Placed}
+use Rattle.cells.specs.Table.{chosen, Placed}
 use Rattle.tables.specs.declared.FreeRegion.{FreeRegion}
-use Rattle.tables.specs.declared.FreeRegions.{FreeRegions}
+use Rattle.tables.specs.Values.{FreeRegions}
 use Rattle.tables.proofs.Packs.{free_pack, free-count, free-kept}
-use Rattle.tables.proofs.Choices.{chosen-some, chosen_none, placed_at}
+use Rattle.cells.proofs.Choices.{chosen-some, chosen_none, placed_at}
 use Rattle.step_fit.proofs.Ways.{other-stop, other_none, other-some, taken-over}
 use Rattle.step_fit.proofs.fit_other.Goals as goal
 

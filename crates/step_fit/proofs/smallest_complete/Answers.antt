@@ -4,7 +4,7 @@ use native.Mathlib.Omega.{arith}
 use Rattle.lists.specs.Scan.{found}
 use Rattle.lists.proofs.Least.{marks-on}
 use Rattle.tables.specs.Values.{free_of, with_free, empty_region}
-use Rattle.tables.specs.Choices.{Placed}
+use Rattle.cells.specs.Table.{Placed}
 use Rattle.tables.specs.Steps.{on}
 use Rattle.tables.proofs.Packs.{free-count}
 use Rattle.driving.specs.Endings.{asked_ending}

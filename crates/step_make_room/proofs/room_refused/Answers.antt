@@ -6,7 +6,7 @@ use native.Mathlib.Omega.{arith}
 use lib.ListN.{length, get_or}
 use Rattle.tables.specs.Bounds.{HOLES, PAGES, ROOTS, SPANS}
 use Rattle.tables.specs.Values.{free_of, holes_of, zombies_of, pages_of, roots_of, tables_of, empty_hole}
-use Rattle.tables.specs.Choices.{chosen}
+use Rattle.cells.specs.Table.{chosen}
 use Rattle.tables.specs.InsertFree.{bytes}
 use Rattle.tables.specs.TakeRange.{smallest_hole}
 use Rattle.tables.specs.declared.Pool.{Pool}

@@ -13,7 +13,7 @@ use Rattle.tables.specs.Driver.{map}
 use Rattle.tables.specs.NewPages.{at, map_page}
 use Rattle.tables.specs.Steps.{on}
 use Rattle.tables.specs.declared.Page.{Page}
-use Rattle.tables.specs.declared.Pages.{Pages}
+use Rattle.tables.specs.Values.{Pages}
 use Rattle.tables.proofs.Packs.{pages_pack, pages-kept, pages-count}
 use Rattle.driving.specs.Ran.{Ran, point}
 use Rattle.driving.specs.Endings.{ending}

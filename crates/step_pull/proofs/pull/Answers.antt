@@ -13,7 +13,7 @@ use Rattle.regions.specs.Cutting.{region_at, Cuttable}
 use Rattle.regions.specs.Pulling.{besides, next_to_pull}
 use Rattle.regions.proofs.Pulling.{pull-none}
 use Rattle.step_pull.proofs.Ways.{pull-enough}
-use Rattle.tables.proofs.Choices.{chosen-some, chosen_none}
+use Rattle.cells.proofs.Choices.{chosen-some, chosen_none}
 use Rattle.tables.proofs.Packs.{free_cell}
 use Rattle.step_pull.proofs.Turns.{due-first, due-last, due-stop, due-again, part-some, zombie-fits, cuttable, place-below}
 use Rattle.step_pull.proofs.pull.Goals as goal

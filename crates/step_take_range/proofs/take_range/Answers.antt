@@ -9,7 +9,7 @@ use Rattle.tables.specs.Malloc.{no_hole}
 use Rattle.tables.specs.TakeRange.{smallest_hole}
 use Rattle.tables.proofs.Packs.{holes-count, holes_pack, holes_cell}
 use Rattle.keeping.proofs.Holes.{member-smallest_hole}
-use Rattle.tables.proofs.Choices.{chosen-some, chosen_none, placed_at}
+use Rattle.cells.proofs.Choices.{chosen-some, chosen_none, placed_at}
 use Rattle.step_take_range.proofs.Ways.{took-root, took-hole}
 use Rattle.step_take_range.proofs.Sounds.{kept_cut}
 use Rattle.step_take_range.proofs.take_range.Goals as goal

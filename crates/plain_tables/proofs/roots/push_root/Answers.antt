@@ -5,13 +5,14 @@ use Prim.Native.Nat.{◌+◌}
 use lib.ListN.{length}
 use Rattle.lists.proofs.Filled.{filled-count}
 use Rattle.lists.proofs.Pushed.{pushed, length_push}
+use Rattle.cells.specs.Table.{entries, pack}
 use Rattle.tables.specs.Bounds.{ROOTS}
 use Rattle.tables.specs.Values.{roots_of, pack_roots, empty_root}
 use native.Mathlib.Omega.{arith}
 use Rattle.plain_tables.proofs.roots.push_root.Goals as goal
 
 pub returns : goal.returns
-unfolding roots_of pack_roots
+unfolding entries pack
 returns c =
     let a = c.args in
     let k = c.requires in

@@ -4,6 +4,7 @@ use mathlib.Core.Path.{◌≡◌}
 use lib.ListN.{length, length-take}
 use Rattle.lists.proofs.Tests.{length-mapped}
 use Rattle.lists.proofs.Pushed.{clearing-begins, clearing-ends}
+use Rattle.cells.specs.Table.{entries, pack}
 use Rattle.tables.specs.Bounds.{ROOTS}
 use Rattle.tables.specs.Values.{roots_of, pack_roots, empty_root}
 use borrow.Author.Rules.{rules}
@@ -11,14 +12,14 @@ use native.Mathlib.Omega.{arith}
 use Rattle.plain_tables.proofs.roots.roots_cleared.Goals as goal
 
 pub loop-i-init : goal.loop-i-init
-unfolding roots_of
+unfolding entries
 loop-i-init c =
     let t = c.args.t in
     let all : length t.cells ≡ ROOTS = search (rules, length-mapped) in
     ((simp length-take (omega arith), (search rules, search rules)), (all, clearing-begins t.count empty_root t.cells (omega arith)))
 
 pub returns : goal.returns
-unfolding pack_roots
+unfolding pack
 returns c =
     let v = c.loop-i in
     let e : v.i ≡ ROOTS = omega arith in

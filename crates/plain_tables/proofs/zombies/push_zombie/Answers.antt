@@ -5,13 +5,14 @@ use Prim.Native.Nat.{◌+◌}
 use lib.ListN.{length}
 use Rattle.lists.proofs.Filled.{filled-count}
 use Rattle.lists.proofs.Pushed.{pushed, length_push}
+use Rattle.cells.specs.Table.{entries, pack}
 use Rattle.tables.specs.Bounds.{ZOMBIES}
 use Rattle.tables.specs.Values.{zombies_of, pack_zombies, empty_zombie}
 use native.Mathlib.Omega.{arith}
 use Rattle.plain_tables.proofs.zombies.push_zombie.Goals as goal
 
 pub returns : goal.returns
-unfolding zombies_of pack_zombies
+unfolding entries pack
 returns c =
     let a = c.args in
     let k = c.requires in

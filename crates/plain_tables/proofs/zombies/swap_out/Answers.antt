@@ -6,13 +6,14 @@ use Rattle.lists.specs.Places.{swap_out}
 use Rattle.lists.proofs.Swap.{length-swap_out}
 use Rattle.lists.proofs.Cells.{swapped}
 use Rattle.lists.proofs.Filled.{filled-count}
+use Rattle.cells.specs.Table.{entries, pack}
 use Rattle.tables.specs.Bounds.{ZOMBIES}
 use Rattle.tables.specs.Values.{zombies_of, pack_zombies, empty_zombie}
 use native.Mathlib.Omega.{arith}
 use Rattle.plain_tables.proofs.zombies.swap_out.Goals as goal
 
 pub returns : goal.returns
-unfolding zombies_of pack_zombies
+unfolding entries pack
 returns c =
     let a = c.args in
     let k = c.requires.0 in

@@ -9,11 +9,12 @@ use lib.Dec.{ltb}
 use lib.ListN.{drop, get_or}
 use Rattle.lists.specs.Tests.{every}
 use Rattle.lists.proofs.Cells.{turn, ends}
+use Rattle.cells.specs.Table.{entries}
 use Rattle.tables.specs.Values.{zombies_of, empty_zombie}
 use Rattle.pool_soundness.proofs.names.zombie_ids_below.Goals as goal
 
 pub returns-then-counter-z : goal.returns-then-counter-z
-unfolding zombies_of
+unfolding entries
 returns-then-counter-z c =
     let here : let a = c.args in
     let i = c.loop-i.i in
@@ -22,7 +23,7 @@ returns-then-counter-z c =
     c.loop-i.invariant.1 ∙ rw (turn t.count t.cells c.loop-i.i empty_zombie (omega arith) (omega arith)) in sym (here ∙ simp (le-ltb _ _ c.if-counter-z.true))
 
 pub loop-i-preserved : goal.loop-i-preserved
-unfolding zombies_of
+unfolding entries
 loop-i-preserved c =
     let here : let a = c.args in
     let i = c.loop-i.i in
@@ -31,7 +32,7 @@ loop-i-preserved c =
     c.loop-i.invariant.1 ∙ rw (turn t.count t.cells c.loop-i.i empty_zombie (omega arith) (omega arith)) in ((search rules, search rules), here ∙ simp (lt-ltb _ _ c.if-counter-z.false))
 
 pub returns : goal.returns
-unfolding zombies_of
+unfolding entries
 returns c =
     let t = c.args.t in
     sym (c.loop-i.invariant.1 ∙ rw (ends t.count t.cells c.loop-i.i (omega arith)))

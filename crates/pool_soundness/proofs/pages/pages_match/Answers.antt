@@ -14,6 +14,7 @@ use Rattle.lists.proofs.Tests.{all_implies, cases_lt}
 use Rattle.lists.proofs.Order.{all-sorted, length-sorted}
 use Rattle.lists.proofs.Copies.{turn-map, ends-map}
 use Rattle.lists.proofs.Merges.{all_unsorted, ascends-map}
+use Rattle.cells.specs.Table.{entries}
 use Rattle.tables.specs.Bounds.{END, SPANS}
 use Rattle.tables.specs.Values.{free_of, live_of, pages_of, empty_buffer, empty_page, empty_region}
 use Rattle.tables.specs.Pull.{starts}
@@ -39,7 +40,7 @@ some-starts page [] p n a = absurd (omega arith)
 some-starts page (h ∷ l) p n a = some-start page h l p a.0.0
 
 pub returns-then-total-j : goal.returns-then-total-j
-unfolding pages_of free_of live_of
+unfolding entries
 returns-then-total-j c =
     let pages-left : let a = c.args in
     let i = c.loop-i.i in
@@ -55,7 +56,7 @@ returns-then-total-j c =
     sym (c.loop-i.invariant.1.1 ∙ rw (pages-left, c.if-left-eq0.true, none_left c.if-total-j.true))
 
 pub loop-i-preserved-then-left-eq0 : goal.loop-i-preserved-then-left-eq0
-unfolding free_of live_of
+unfolding entries
 loop-i-preserved-then-left-eq0 c =
     let f-left : List Range = drop c.loop-i.j (frees c.args.free) in
     let b-left : List Range = drop c.loop-i.k (lives c.args.live) in
@@ -112,7 +113,7 @@ loop-i-preserved-then-left-eq0 c =
     )
 
 pub returns-then-g-at : goal.returns-then-g-at
-unfolding pages_of
+unfolding entries
 returns-then-g-at c =
     let pages-left : let a = c.args in
     let i = c.loop-i.i in
@@ -121,7 +122,7 @@ returns-then-g-at c =
     sym (c.loop-i.invariant.1.1 ∙ rw (pages-left, next_start c.args.page c.loop-i.left c.loop-i.at _ (omega arith), ne_eqb _ _ c.if-g-at.true))
 
 pub loop-i-preserved : goal.loop-i-preserved
-unfolding pages_of
+unfolding entries
 loop-i-preserved c =
     let pages-left : let a = c.args in
     let i = c.loop-i.i in
@@ -136,14 +137,14 @@ loop-i-preserved c =
     )
 
 pub returns-then-left-ne0 : goal.returns-then-left-ne0
-unfolding pages_of
+unfolding entries
 returns-then-left-ne0 c =
     let pages-end : drop c.loop-i.i (map at-start (pages_of c.args.t)) ≡ [] = let t = c.args.t in
     ends-map at-start t.count t.cells c.loop-i.i (omega arith) in
     sym (c.loop-i.invariant.1.1 ∙ rw (pages-end, next_start c.args.page c.loop-i.left c.loop-i.at _ (omega arith)))
 
 pub returns : goal.returns
-unfolding free_of live_of pages_of
+unfolding entries
 returns c =
     let f-left : List Range = drop c.loop-i.j (frees c.args.free) in
     let b-left : List Range = drop c.loop-i.k (lives c.args.live) in

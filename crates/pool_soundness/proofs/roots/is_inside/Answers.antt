@@ -10,6 +10,7 @@ use lib.ListN.{drop, get_or}
 use Rattle.lists.specs.Tests.{All}
 use Rattle.lists.proofs.Every.{pairwise-pairs}
 use Rattle.lists.proofs.Cells.{turn, ends}
+use Rattle.cells.specs.Table.{entries}
 use Rattle.tables.specs.Bounds.{END}
 use Rattle.tables.specs.Values.{roots_of, address}
 use Rattle.tables.specs.WellFormed.{range, common}
@@ -29,14 +30,14 @@ next-sum : (all sum next rest : ℕ) → all ≡ sum + (next + rest) → all ≡
 next-sum all sum next rest e = omega arith
 
 pub common_bytes-sum-requires : goal.common_bytes-sum-requires
-unfolding roots_of
+unfolding entries
 common_bytes-sum-requires c =
     let ended : let a = c.args in
     All (λ r. r.0 + a.va ≤ END) (get_or a.roots.cells c.loop-i.i (address 0) ∷ drop (c.loop-i.i + 1) (roots_of a.roots)) = let t = c.args.roots in
     rw (turn t.count t.cells c.loop-i.i (address 0) (omega arith) (omega arith)) at c.loop-i.invariant.0.1.1 in (search rules, ended.0)
 
 pub returns-then-sum-size : goal.returns-then-sum-size
-unfolding roots_of
+unfolding entries
 returns-then-sum-size c =
     let here : let a = c.args in
     let h = range a.from a.size in
@@ -55,7 +56,7 @@ returns-then-sum-size c =
     (whole_sum _ c.loop-i.sum c.common_bytes-sum.result _ a.size sums c.if-sum-size.true most))
 
 pub loop-i-preserved : goal.loop-i-preserved
-unfolding roots_of
+unfolding entries
 loop-i-preserved c =
     let ended : let a = c.args in
     All (λ r. r.0 + a.va ≤ END) (get_or a.roots.cells c.loop-i.i (address 0) ∷ drop (c.loop-i.i + 1) (roots_of a.roots)) = let t = c.args.roots in
@@ -75,7 +76,7 @@ loop-i-preserved c =
     )
 
 pub returns : goal.returns
-unfolding roots_of
+unfolding entries
 returns c =
     let a = c.args in
     let t = a.roots in

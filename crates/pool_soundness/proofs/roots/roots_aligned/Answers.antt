@@ -10,6 +10,7 @@ use lib.ListN.{drop, get_or}
 use Rattle.lists.specs.Tests.{every}
 use Rattle.lists.proofs.Cells.{turn, ends}
 use Rattle.words.specs.declared.Address.{Address}
+use Rattle.cells.specs.Table.{entries}
 use Rattle.tables.specs.Bounds.{END}
 use Rattle.tables.specs.Values.{roots_of, address}
 use Rattle.tables.specs.WellFormed.{whole}
@@ -19,7 +20,7 @@ abbrev aligned : ℕ → ℕ → Address → Bool
 aligned page va a = whole page a.0 && leb a.0 (END - va)
 
 pub returns-then-not-is_whole : goal.returns-then-not-is_whole
-unfolding roots_of
+unfolding entries
 returns-then-not-is_whole c =
     let here : let a = c.args in
     let r = get_or a.t.cells c.loop-i.i (address 0) in
@@ -28,7 +29,7 @@ returns-then-not-is_whole c =
     c.loop-i.invariant.1 ∙ rw (turn t.count t.cells c.loop-i.i (address 0) (omega arith) (omega arith), c.is_whole.ensures) in sym (here ∙ rw c.if-not-is_whole.true)
 
 pub returns-then-highest-a : goal.returns-then-highest-a
-unfolding roots_of
+unfolding entries
 returns-then-highest-a c =
     let here : let a = c.args in
     let r = get_or a.t.cells c.loop-i.i (address 0) in
@@ -37,7 +38,7 @@ returns-then-highest-a c =
     c.loop-i.invariant.1 ∙ rw (turn t.count t.cells c.loop-i.i (address 0) (omega arith) (omega arith), c.is_whole.ensures) in sym (here ∙ simp (lt-leb _ _ c.if-highest-a.true, and-false))
 
 pub loop-i-preserved : goal.loop-i-preserved
-unfolding roots_of
+unfolding entries
 loop-i-preserved c =
     let here : let a = c.args in
     let r = get_or a.t.cells c.loop-i.i (address 0) in
@@ -46,7 +47,7 @@ loop-i-preserved c =
     c.loop-i.invariant.1 ∙ rw (turn t.count t.cells c.loop-i.i (address 0) (omega arith) (omega arith), c.is_whole.ensures) in ((search rules, search rules), here ∙ rw (c.if-not-is_whole.false, le-leb _ _ c.if-highest-a.false))
 
 pub returns : goal.returns
-unfolding roots_of
+unfolding entries
 returns c =
     let t = c.args.t in
     sym (c.loop-i.invariant.1 ∙ rw (ends t.count t.cells c.loop-i.i (omega arith)))

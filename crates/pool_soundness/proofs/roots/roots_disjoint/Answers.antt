@@ -9,6 +9,7 @@ use lib.ListN.{drop, get_or}
 use Rattle.lists.specs.Tests.{every, pairwise}
 use Rattle.lists.proofs.Cells.{turn, ends}
 use Rattle.words.specs.declared.Address.{Address}
+use Rattle.cells.specs.Table.{entries}
 use Rattle.tables.specs.Values.{roots_of, address}
 use Rattle.tables.specs.TakeRange.{apart}
 use Rattle.pool_soundness.proofs.roots.roots_disjoint.Goals as goal
@@ -17,13 +18,13 @@ abbrev parted : ℕ → Address → Address → Bool
 parted va a b = apart va a.0 b.0
 
 pub loop-j-init : goal.loop-j-init
-unfolding roots_of
+unfolding entries
 loop-j-init c =
     let t = c.args.t in
     (search rules, c.loop-i.invariant.1 ∙ rw (turn t.count t.cells c.loop-i.i (address 0) (omega arith) (omega arith)))
 
 pub returns-then-not-is_apart : goal.returns-then-not-is_apart
-unfolding roots_of
+unfolding entries
 returns-then-not-is_apart c =
     let here : let va = c.args.va in
     let l = roots_of c.args.t in
@@ -32,7 +33,7 @@ returns-then-not-is_apart c =
     c.loop-j.invariant.1 ∙ rw (turn t.count t.cells c.loop-j.j (address 0) (omega arith) (omega arith), c.is_apart.ensures) in sym (here ∙ rw c.if-not-is_apart.true)
 
 pub loop-j-preserved : goal.loop-j-preserved
-unfolding roots_of
+unfolding entries
 loop-j-preserved c =
     let here : let va = c.args.va in
     let l = roots_of c.args.t in
@@ -41,13 +42,13 @@ loop-j-preserved c =
     c.loop-j.invariant.1 ∙ rw (turn t.count t.cells c.loop-j.j (address 0) (omega arith) (omega arith), c.is_apart.ensures) in (search rules, here ∙ rw c.if-not-is_apart.false)
 
 pub loop-i-preserved : goal.loop-i-preserved
-unfolding roots_of
+unfolding entries
 loop-i-preserved c =
     let t = c.args.t in
     ((search rules, search rules), c.loop-j.invariant.1 ∙ rw (ends t.count t.cells c.loop-j.j (omega arith)))
 
 pub returns : goal.returns
-unfolding roots_of
+unfolding entries
 returns c =
     let t = c.args.t in
     sym (c.loop-i.invariant.1 ∙ rw (ends t.count t.cells c.loop-i.i (omega arith)))

@@ -7,13 +7,14 @@ use lib.Dec.{leb}
 use lib.ListN.{drop}
 use Rattle.lists.specs.Places.{place}
 use Rattle.lists.proofs.Cells.{turn, ends}
+use Rattle.cells.specs.Table.{entries}
 use Rattle.tables.specs.Values.{free_of, empty_region}
 use Rattle.tables.specs.InsertFree.{from}
 use borrow.Author.Rules.{rules}
 use Rattle.regions.proofs.cells.find.Goals as goal
 
 pub returns-then-start-q : goal.returns-then-start-q
-unfolding free_of
+unfolding entries
 returns-then-start-q c =
     let a = c.args in
     let e : place (λ q. leb a.start.0 (from q)) (drop c.loop-i.i (free_of a.t)) ≡ 0 =
@@ -21,7 +22,7 @@ returns-then-start-q c =
     omega arith
 
 pub loop-i-preserved : goal.loop-i-preserved
-unfolding free_of
+unfolding entries
 loop-i-preserved c =
     let a = c.args in
     let e : place (λ q. leb a.start.0 (from q)) (drop c.loop-i.i (free_of a.t)) ≡ suc (place (λ q. leb a.start.0 (from q)) (drop (c.loop-i.i + 1) (free_of a.t))) =
@@ -29,7 +30,7 @@ loop-i-preserved c =
     ((search rules, search rules), (search rules, omega arith))
 
 pub returns : goal.returns
-unfolding free_of
+unfolding entries
 returns c =
     let a = c.args in
     let e : place (λ q. leb a.start.0 (from q)) (drop c.loop-i.i (free_of a.t)) ≡ 0 = rw (ends a.t.count a.t.cells c.loop-i.i (omega arith)) in

@@ -5,6 +5,7 @@ use Prim.Native.Nat.{◌+◌}
 use native.Mathlib.Omega.{arith}
 use Rattle.lists.proofs.Places.{shift_up, length-insert_at}
 use Rattle.lists.proofs.Cells.{inserted}
+use Rattle.cells.specs.Table.{entries, pack}
 use Rattle.tables.specs.Bounds.{SPANS}
 use Rattle.tables.specs.Values.{free_of, pack_free, empty_region}
 use Rattle.tables.proofs.Packs.{free-count}
@@ -17,7 +18,7 @@ loop-i-preserved c =
     ((search rules, search rules), (search rules, shift_up v.out.cells v.i empty_region (omega arith) (omega arith) ∙ v.invariant.1.1))
 
 pub returns : goal.returns
-unfolding free_of pack_free
+unfolding entries pack
 returns c =
     let a = c.args in
     let k = c.requires in

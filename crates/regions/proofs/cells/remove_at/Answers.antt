@@ -7,6 +7,7 @@ use lib.ListN.{length}
 use Rattle.lists.specs.Places.{remove_at}
 use Rattle.lists.proofs.Places.{shift_down, length-remove_at}
 use Rattle.lists.proofs.Cells.{removed}
+use Rattle.cells.specs.Table.{entries, pack}
 use Rattle.tables.specs.Bounds.{SPANS}
 use Rattle.tables.specs.Values.{free_of, pack_free, empty_region}
 use Rattle.tables.proofs.Packs.{free-count}
@@ -19,7 +20,7 @@ loop-i-preserved c =
     ((search rules, search rules), (search rules, shift_down v.out.cells v.i empty_region (omega arith) ∙ v.invariant.1.1))
 
 pub returns : goal.returns
-unfolding free_of pack_free
+unfolding entries pack
 returns c =
     let a = c.args in
     let k = c.requires in

@@ -8,6 +8,7 @@ use lib.ListN.{length, set, length-set}
 use Rattle.lists.specs.Places.{remove_at}
 use Rattle.lists.proofs.Places.{shift_down, length-remove_at}
 use Rattle.lists.proofs.Cells.{packed-set, removed}
+use Rattle.cells.specs.Table.{entries, pack}
 use Rattle.tables.specs.Bounds.{SPANS}
 use Rattle.tables.specs.Values.{free_of, pack_free, empty_region}
 use Rattle.tables.proofs.Packs.{free-count, free_cell}
@@ -19,7 +20,7 @@ overflow_add-out c =
     omega (arith, ap (λ q. q.start.0 + q.size) (free_cell c.args.t c.args.at c.requires.placed))
 
 pub returns-then-taken-r : goal.returns-then-taken-r
-unfolding free_of pack_free
+unfolding entries pack
 returns-then-taken-r c =
     let t = c.args.t in
     let at = c.args.at in
@@ -37,7 +38,7 @@ loop-i-preserved c =
     ((search rules, search rules), (search rules, shift_down v.out.cells v.i empty_region (omega arith) ∙ v.invariant.1.1))
 
 pub returns : goal.returns
-unfolding free_of pack_free
+unfolding entries pack
 returns c =
     let t = c.args.t in
     let at = c.args.at in

@@ -6,7 +6,7 @@ use borrow.Author.Tests.{eq-eqb, ne_eqb}
 use lib.ListN.{length-take}
 use lib.Seq.{get_or-take}
 use Rattle.lists.proofs.Cells.{turn, ends}
-use Rattle.tables.specs.Choices.{chosen, Placed}
+use Rattle.cells.specs.Table.{chosen, Placed}
 use Rattle.manager_rules.specs.Values.{small_of, empty_small}
 use Rattle.small_buffers.proofs.table.find_small.Goals as goal
 

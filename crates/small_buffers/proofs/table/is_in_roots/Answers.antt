@@ -7,8 +7,9 @@ use borrow.Author.Rules.{rules}
 use lib.Dec.{ltb, leb}
 use lib.ListN.{length, drop, get_or}
 use Rattle.lists.proofs.Cells.{turn, ends}
+use Rattle.cells.specs.Table.{entries}
 use Rattle.tables.specs.Values.{address, roots_of}
-use Rattle.tables.specs.declared.Roots.{Roots}
+use Rattle.tables.specs.Values.{Roots}
 use Rattle.manager_rules.specs.Malloc.{in_roots}
 use Rattle.small_buffers.proofs.table.is_in_roots.Goals as goal
 
@@ -17,7 +18,7 @@ here : (va : ℕ) (t : Roots) (pointer i : ℕ) → i < t.count → t.count ≤ 
     let base = (get_or t.cells i (address 0)).0 in
     in_roots va (drop i (roots_of t)) pointer
     ≡ ((leb base pointer && ltb pointer (base + va)) || in_roots va (drop (i + 1) (roots_of t)) pointer)
-unfolding roots_of
+unfolding entries
 here va t pointer i h k = rw (turn t.count t.cells i (address 0) h k)
 
 pub returns-then-is_inside : goal.returns-then-is_inside
@@ -31,7 +32,7 @@ loop-i-preserved c =
     ((search rules, search rules), (search rules, c.loop-i.invariant.1.1 ∙ h ∙ rw (← c.is_inside.ensures, c.if-is_inside.false)))
 
 pub returns : goal.returns
-unfolding roots_of
+unfolding entries
 returns c =
     let t = c.args.t in
     rw (c.loop-i.invariant.1.1, ends t.count t.cells c.loop-i.i (omega arith))

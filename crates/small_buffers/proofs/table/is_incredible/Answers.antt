@@ -3,7 +3,7 @@ use mathlib.Core.Path.{sym}
 use mathlib.Core.Bool.{or-true}
 use borrow.Author.Tests.{ne_eqb}
 use lib.Dec.{eqb}
-use Rattle.tables.proofs.Choices.{chosen-some, chosen_none}
+use Rattle.cells.proofs.Choices.{chosen-some, chosen_none}
 use Rattle.manager_rules.specs.Values.{small_of, empty_small}
 use Rattle.small_buffers.proofs.Rows.{any_some, any_none}
 use Rattle.small_buffers.proofs.table.is_incredible.Goals as goal
