@@ -1,3 +1,4 @@
+pub mod Bits
 pub mod Packs
 pub mod Apart
 pub mod AToN

@@ -28,16 +28,16 @@ pub free_pack : (l : List FreeRegion) → free_of (pack_free l) ≡ l
 free_pack = entries_pack SPANS empty_region
 
 pub free-whole : (t : FreeRegions) → KeptFree t → t ≡ pack_free (free_of t)
-free-whole = whole SPANS empty_region
+free-whole = whole empty_region
 
 pub free-count : (t : FreeRegions) → KeptFree t → t.count ≡ length (free_of t)
-free-count = count_is SPANS empty_region
+free-count = count_is empty_region
 
 pub free_cell : (t : FreeRegions) (i : ℕ) → i < t.count → get_or (free_of t) i empty_region ≡ get_or t.cells i empty_region
-free_cell = cell_is SPANS empty_region
+free_cell = cell_is empty_region
 
 pub free-kept : (l : List FreeRegion) → length l ≤ SPANS → KeptFree (pack_free l)
-free-kept = kept SPANS empty_region
+free-kept = kept empty_region
 
 pub free-packed-count : (l : List FreeRegion) → (pack_free l).count ≡ length l
 free-packed-count = packed_count SPANS empty_region
@@ -46,16 +46,16 @@ pub live_pack : (l : List LiveBuffer) → live_of (pack_live l) ≡ l
 live_pack = entries_pack SPANS empty_buffer
 
 pub live-whole : (t : LiveBuffers) → KeptLive t → t ≡ pack_live (live_of t)
-live-whole = whole SPANS empty_buffer
+live-whole = whole empty_buffer
 
 pub live-count : (t : LiveBuffers) → KeptLive t → t.count ≡ length (live_of t)
-live-count = count_is SPANS empty_buffer
+live-count = count_is empty_buffer
 
 pub live_cell : (t : LiveBuffers) (i : ℕ) → i < t.count → get_or (live_of t) i empty_buffer ≡ get_or t.cells i empty_buffer
-live_cell = cell_is SPANS empty_buffer
+live_cell = cell_is empty_buffer
 
 pub live-kept : (l : List LiveBuffer) → length l ≤ SPANS → KeptLive (pack_live l)
-live-kept = kept SPANS empty_buffer
+live-kept = kept empty_buffer
 
 pub live-packed-count : (l : List LiveBuffer) → (pack_live l).count ≡ length l
 live-packed-count = packed_count SPANS empty_buffer
@@ -64,16 +64,16 @@ pub holes_pack : (l : List Hole) → holes_of (pack_holes l) ≡ l
 holes_pack = entries_pack HOLES empty_hole
 
 pub holes-whole : (t : Holes) → KeptHoles t → t ≡ pack_holes (holes_of t)
-holes-whole = whole HOLES empty_hole
+holes-whole = whole empty_hole
 
 pub holes-count : (t : Holes) → KeptHoles t → t.count ≡ length (holes_of t)
-holes-count = count_is HOLES empty_hole
+holes-count = count_is empty_hole
 
 pub holes_cell : (t : Holes) (i : ℕ) → i < t.count → get_or (holes_of t) i empty_hole ≡ get_or t.cells i empty_hole
-holes_cell = cell_is HOLES empty_hole
+holes_cell = cell_is empty_hole
 
 pub holes-kept : (l : List Hole) → length l ≤ HOLES → KeptHoles (pack_holes l)
-holes-kept = kept HOLES empty_hole
+holes-kept = kept empty_hole
 
 pub holes-packed-count : (l : List Hole) → (pack_holes l).count ≡ length l
 holes-packed-count = packed_count HOLES empty_hole
@@ -82,16 +82,16 @@ pub zombies_pack : (l : List Zombie) → zombies_of (pack_zombies l) ≡ l
 zombies_pack = entries_pack ZOMBIES empty_zombie
 
 pub zombies-whole : (t : Zombies) → KeptZombies t → t ≡ pack_zombies (zombies_of t)
-zombies-whole = whole ZOMBIES empty_zombie
+zombies-whole = whole empty_zombie
 
 pub zombies-count : (t : Zombies) → KeptZombies t → t.count ≡ length (zombies_of t)
-zombies-count = count_is ZOMBIES empty_zombie
+zombies-count = count_is empty_zombie
 
 pub zombies_cell : (t : Zombies) (i : ℕ) → i < t.count → get_or (zombies_of t) i empty_zombie ≡ get_or t.cells i empty_zombie
-zombies_cell = cell_is ZOMBIES empty_zombie
+zombies_cell = cell_is empty_zombie
 
 pub zombies-kept : (l : List Zombie) → length l ≤ ZOMBIES → KeptZombies (pack_zombies l)
-zombies-kept = kept ZOMBIES empty_zombie
+zombies-kept = kept empty_zombie
 
 pub zombies-packed-count : (l : List Zombie) → (pack_zombies l).count ≡ length l
 zombies-packed-count = packed_count ZOMBIES empty_zombie
@@ -100,16 +100,16 @@ pub pages_pack : (l : List Page) → pages_of (pack_pages l) ≡ l
 pages_pack = entries_pack PAGES empty_page
 
 pub pages-whole : (t : Pages) → KeptPages t → t ≡ pack_pages (pages_of t)
-pages-whole = whole PAGES empty_page
+pages-whole = whole empty_page
 
 pub pages-count : (t : Pages) → KeptPages t → t.count ≡ length (pages_of t)
-pages-count = count_is PAGES empty_page
+pages-count = count_is empty_page
 
 pub pages_cell : (t : Pages) (i : ℕ) → i < t.count → get_or (pages_of t) i empty_page ≡ get_or t.cells i empty_page
-pages_cell = cell_is PAGES empty_page
+pages_cell = cell_is empty_page
 
 pub pages-kept : (l : List Page) → length l ≤ PAGES → KeptPages (pack_pages l)
-pages-kept = kept PAGES empty_page
+pages-kept = kept empty_page
 
 pub pages-packed-count : (l : List Page) → (pack_pages l).count ≡ length l
 pages-packed-count = packed_count PAGES empty_page
@@ -118,13 +118,13 @@ pub roots_pack : (l : List Address) → roots_of (pack_roots l) ≡ l
 roots_pack = entries_pack ROOTS empty_root
 
 pub roots-whole : (t : Roots) → KeptRoots t → t ≡ pack_roots (roots_of t)
-roots-whole = whole ROOTS empty_root
+roots-whole = whole empty_root
 
 pub roots-count : (t : Roots) → KeptRoots t → t.count ≡ length (roots_of t)
-roots-count = count_is ROOTS empty_root
+roots-count = count_is empty_root
 
 pub roots_kept : (l : List Address) → length l ≤ ROOTS → KeptRoots (pack_roots l)
-roots_kept = kept ROOTS empty_root
+roots_kept = kept empty_root
 
 pub roots-packed-count : (l : List Address) → (pack_roots l).count ≡ length l
 roots-packed-count = packed_count ROOTS empty_root
