@@ -1,3 +1,4 @@
 pub mod Choices
 pub mod Packs
 pub mod Shifts
+pub mod Firsts
