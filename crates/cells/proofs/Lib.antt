@@ -2,3 +2,4 @@ pub mod Choices
 pub mod Packs
 pub mod Shifts
 pub mod Firsts
+pub mod Rests
