@@ -29,14 +29,14 @@ pub record Lent (d d' : Driver) : Type 0 where
   pub cells : length d'.log.now ≡ length d.log.now
 
 -- where a call stands, with its tables
-abbrev pub at : Driver → Tables → Point
-at d t = point d.made t d.log.now
+abbrev pub stands : Driver → Tables → Point
+stands d t = point d.made t d.log.now
 
 -- A driver call: it leaves the tables as they are, whatever they are, and one record.
 pub record Drove {A : Type 0} (m : Step A) (d : Driver) (e : Ending A) (d' : Driver) : Type 0 where
   pub lent : Lent d d'
   pub made : d'.made ≡ d.made + 1
-  pub ran : (t : Tables) → Ran m d.answers.now (at d t) e (at d' t)
+  pub ran : (t : Tables) → Ran m d.answers.now (stands d t) e (stands d' t)
 
 -- The log has room for `n` records more.
 abbrev pub RoomFor : ℕ → Driver → Type 0

@@ -1,17 +1,10 @@
 -- Which free regions count in a scan for the best, what it chooses, and what becomes of it.
 use Rattle.std.specs.Prelude.{Bool, cond, ◌&&◌, List, map, ℕ, leb, eqb}
 use Rattle.std.proofs.Math.Option.{Option}
-use Rattle.lists.specs.declared.Best.{Best}
 use Rattle.tables.specs.InsertFree.{from}
 use Rattle.tables.specs.Pull.{own_of}
 use Rattle.tables.specs.Fit.{candidates, smallest, on_stream}
 use Rattle.tables.specs.declared.FreeRegion.{FreeRegion}
-use Rattle.cells.specs.Table.{Choice}
-use Rattle.std.specs.Prelude.{Some, None}
-
--- the place of the best
-unfoldable pub place_of : Best → Choice
-place_of b = cond b.found (Some b.at) None
 
 -- at least `n` bytes, on stream `s`
 abbrev pub suits : ℕ → ℕ → FreeRegion → Bool

@@ -9,7 +9,7 @@ ghost use Rattle.words.specs.Log.{written};
 use cells::Entry;
 
 #[repr(C)]
-#[derive(Clone, Copy)]
+#[derive(Clone, Copy, PartialEq, Eq)]
 pub struct Address(pub u64);
 
 impl Entry for Address {
@@ -30,11 +30,11 @@ impl Entry for Address {
 
 // A page of the card's memory, wherever it is mapped.
 #[repr(C)]
-#[derive(Clone, Copy)]
+#[derive(Clone, Copy, PartialEq, Eq)]
 pub struct Handle(pub u64);
 
 #[repr(C)]
-#[derive(Clone, Copy)]
+#[derive(Clone, Copy, PartialEq, Eq)]
 pub struct EventId(pub u64);
 
 // The driver's calls.
