@@ -3,3 +3,4 @@ pub mod Packs
 pub mod Shifts
 pub mod Firsts
 pub mod Rests
+pub mod Ascending
