@@ -227,12 +227,22 @@ impl Pool {
     pub fn ceilings_kept(&self) -> bool
         ensures { result ≡ ceilings_kept self.now }
     {
-        self.pages.count <= Pool::PAGES
-            && self.free.count <= Pool::SPANS
-            && self.live.count <= Pool::SPANS - self.free.count
-            && self.zombies.count <= Pool::ZOMBIES
-            && self.holes.count <= Pool::HOLES - self.zombies.count
-            && self.roots.count <= Pool::ROOTS
+        if Pool::PAGES < self.pages.count {
+            return false;
+        }
+        if Pool::SPANS < self.free.count {
+            return false;
+        }
+        if Pool::SPANS - self.free.count < self.live.count {
+            return false;
+        }
+        if Pool::ZOMBIES < self.zombies.count {
+            return false;
+        }
+        if Pool::HOLES - self.zombies.count < self.holes.count {
+            return false;
+        }
+        self.roots.count <= Pool::ROOTS
     }
 }
 
