@@ -31,11 +31,7 @@ fn count_tell(
 }
 
 // The zombies' ranges.
-fn unmap_zombies(
-    zombies: &[Zombie],
-    driver: &mut Driver,
-    failed: &mut usize,
-) -> Result<(), Outcome>
+fn unmap_zombies(zombies: &[Zombie], driver: &mut Driver, failed: &mut usize) -> Result<(), Outcome>
     requires { (failed.old ≤ driver.old.made) × RoomFor (length zombies.now) driver.old }
     ensures { Counts (each unmap_zombie zombies.now) (length zombies.now) driver.old failed.old result driver.new failed.new }
 {
@@ -46,12 +42,7 @@ fn unmap_zombies(
 }
 
 // Unmap and release a page.
-fn close_page(
-    g: Page,
-    page: u64,
-    driver: &mut Driver,
-    failed: &mut usize,
-) -> Result<(), Outcome>
+fn close_page(g: Page, page: u64, driver: &mut Driver, failed: &mut usize) -> Result<(), Outcome>
     requires { (failed.old ≤ driver.old.made) × RoomFor 2 driver.old }
     ensures { Counts (close_page page g) 2 driver.old failed.old result driver.new failed.new }
 {
