@@ -1,6 +1,6 @@
 -- The next to pull is the oldest of this stream, else of the others; and to pull by repeated choice is to pull by the order.
 use mathlib.Core.Path.{◌≡◌, refl, ap, sym, ◌∙◌}
-use mathlib.Core.Bool.{Bool, true, false, cond, not, ◌&&◌, true≢false}
+use mathlib.Core.Bool.{Bool, true, false, not, ◌&&◌, true≢false}
 use mathlib.Core.List.{List, [], ◌∷◌}
 use mathlib.Core.Option.{Option, some, none}
 use Prim.Native.Nat.{ℕ}

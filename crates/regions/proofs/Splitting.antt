@@ -5,12 +5,11 @@ use mathlib.Core.Bool.{Bool, true, false, not}
 use mathlib.Core.List.{List, [], ◌∷◌, ◌++◌, foldr, append-nil, append_assoc}
 use Prim.Native.Nat.{ℕ, ◌+◌, ◌≤◌, ◌<◌, min}
 use native.Mathlib.Omega.{arith}
-use lib.ListN.{length, drop, length-append}
+use lib.ListN.{length, length-append}
 use Rattle.lists.specs.Tests.{filter}
 use Rattle.lists.proofs.Tests.{length-filter}
 use Rattle.lists.proofs.Walks.{sum-filter}
 use Rattle.lists.proofs.Lowest.{foldr-min}
-use Rattle.tables.specs.Bounds.{SPANS}
 use Rattle.tables.specs.Values.{region, pack_free}
 use Rattle.tables.specs.InsertFree.{from, bytes, merges, merged}
 use Rattle.tables.specs.declared.FreeRegion.{FreeRegion}
