@@ -16,7 +16,11 @@ fn settle(region: FreeRegion, stream: u64, driver: &mut Driver) -> Result<(), Ou
     requires { RoomFor 2 driver.old }
     ensures { Settles stream region driver.old result driver.new }
 {
-    if region.stream == stream || driver.is_complete(region.id)? {
+    if region.stream == stream {
+        return Ok(());
+    }
+    let complete = driver.is_complete(region.id)?;
+    if complete {
         return Ok(());
     }
     driver.must_tell(Word::Wait, region.id.0, stream)
@@ -55,7 +59,7 @@ pub fn pull(
         let part = part_of(region, left);
         if let Err(outcome) = settle(region, stream, driver) {
             // where settling ends the call the region is in no table
-            free.remove_at(at);
+            cut_region(free, at, region.size);
             return Err(outcome);
         }
         cut_region(free, at, part.size);
