@@ -16,6 +16,7 @@ use step_pull_in::pull_in;
 use tables::{FreeRegion, Outcome, Pool};
 
 // No fit: 8, 9, 10, 11 in this order, or on.
+#[tactic(auto, using(crate::proofs::Refusing::refuses_holes))]
 pub fn room_refused(pool: &Pool, requested: u64, missing: u64) -> Result<(), Outcome>
     requires { Readable requested missing pool.now }
     ensures { Refuses requested pool.now result }
@@ -34,10 +35,13 @@ pub fn room_refused(pool: &Pool, requested: u64, missing: u64) -> Result<(), Out
     if Pool::HOLES <= pulled + pool.holes.count {
         return Err(Outcome::ZombiesFull);
     }
-    if Pool::ROOTS <= pool.roots.count && smallest_hole(&pool.holes, requested).is_none() {
-        return Err(Outcome::RootsFull);
+    if pool.roots.count < Pool::ROOTS {
+        return Ok(());
     }
-    Ok(())
+    match smallest_hole(&pool.holes, requested) {
+        Some(_) => Ok(()),
+        None => Err(Outcome::RootsFull),
+    }
 }
 
 // The new region serves if it is large enough with what it merged with; else what it lacks is pulled in.

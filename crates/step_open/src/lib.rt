@@ -48,11 +48,12 @@ pub fn open_steps(
         0,
         driver,
     )?;
-    if 0 < initial {
-        // nothing is free: all of it is missing
-        let bytes = initial * page;
-        make_room(pool, bytes, bytes, stream, driver)?;
-        driver.must_tell(Word::Sync, stream, 0)?;
+    if initial == 0 {
+        return Ok(Outcome::Opened(base, page));
     }
+    // nothing is free: all of it is missing
+    let bytes = initial * page;
+    make_room(pool, bytes, bytes, stream, driver)?;
+    driver.must_tell(Word::Sync, stream, 0)?;
     Ok(Outcome::Opened(base, page))
 }

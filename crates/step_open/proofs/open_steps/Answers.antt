@@ -1,55 +1,54 @@
 -- `step_open::open_steps` meets its contract: its calls are the steps of the rule in order.
 use Prim.Native.Nat.{◌<◌}
 use native.Mathlib.Omega.{arith}
-use Rattle.tables.specs.Driver.{must, sync}
-use Rattle.driving.specs.Ran.{Drove}
-use Rattle.driving.specs.Endings.{ending}
+use Rattle.std.proofs.lemmas.Result.{err_from_is_err_and}
+use Rattle.tables.specs.Driver.{sync}
 use Rattle.step_open.proofs.Opening.{takeable, root-fits, root-stopped, root_opened, roomable, room-stopped, sync-stopped, pages-opened}
 use Rattle.step_open.proofs.open_steps.Goals as goal
 
-pub reserve_root-took-requires : goal.reserve_root-took-requires
-reserve_root-took-requires c =
-    record { takeable = takeable c.requires.0 c.no_tables-p.ensures; count_bound = (root-fits c.requires.0 c.no_tables-p.ensures, omega (arith, c.requires.1)) }
+pub reserve_root-requires : goal.reserve_root-requires
+reserve_root-requires c =
+    let k = c.requires.configured in
+    record { takeable = takeable k.0 c.requires.empty; count_bound = (root-fits k.0 c.requires.empty, omega (arith, k.1)) }
 
-pub returns-in_default : goal.returns-in_default
-returns-in_default c =
-    rw c.stepped_at.ensures
-    (root-stopped c.requires.0 c.no_tables-p.ensures c.args.stream c.reserve_root-took.ensures c.in_default.is)
+pub returns-in_err-base : goal.returns-in_err-base
+returns-in_err-base c =
+    let p = err_from_is_err_and c.from_residual.result c.from_residual.ensures.1 in
+    rw (p.1, p.2) (root-stopped c.requires.configured.0 c.requires.empty c.args.stream c.in_err-base.ensures)
 
 pub returns-then-initial-eq0 : goal.returns-then-initial-eq0
 returns-then-initial-eq0 c =
-    root_opened c.requires.0 c.no_tables-p.ensures c.args.stream c.reserve_root-took.ensures c.in-On.is c.if-initial-eq0.true
+    root_opened c.requires.configured.0 c.requires.empty c.args.stream c.in_ok-base.ensures c.if-initial-eq0.true
 
-pub make_room-roomed-requires : goal.make_room-roomed-requires
-make_room-roomed-requires c =
-    let some-initial : 0 < c.args.initial = omega (arith, c.if-initial-eq0.false) in (
-      roomable c.requires.0 c.no_tables-p.ensures c.args.stream c.reserve_root-took.ensures c.in-On.is some-initial,
-      omega (arith, c.requires.1, c.reserve_root-took.ensures.most, c.reserve_root-took.auto.log),
-    )
+pub make_room-requires : goal.make_room-requires
+make_room-requires c =
+    let w = c.in_ok-base.ensures in
+    (roomable c.requires.configured.0 c.requires.empty c.args.stream w (omega (arith, c.if-initial-eq0.false)),
+      omega (arith, c.requires.configured.1, w.most, w.lent.cells))
 
-pub returns-in_default-roomed_ended : goal.returns-in_default-roomed_ended
-returns-in_default-roomed_ended c =
-    let some-initial : 0 < c.args.initial = omega (arith, c.if-initial-eq0.false) in
-    rw c.stepped_at-in_default-roomed_ended.ensures
-    (room-stopped c.requires.0 c.no_tables-p.ensures c.args.stream c.reserve_root-took.ensures c.in-On.is some-initial
-    c.make_room-roomed.result _ c.make_room-roomed.ensures c.in_default-roomed_ended.is)
+pub returns-in_err-make_room : goal.returns-in_err-make_room
+returns-in_err-make_room c =
+    let p = err_from_is_err_and c.from_residual-in_err-make_room.result c.from_residual-in_err-make_room.ensures.1 in
+    rw (p.1, p.2)
+    (room-stopped c.requires.configured.0 c.requires.empty c.args.stream c.in_ok-base.ensures (omega (arith, c.if-initial-eq0.false))
+    c.in_err-make_room.ensures)
 
-pub returns-in_default-synced : goal.returns-in_default-synced
+pub must_tell-requires : goal.must_tell-requires
+must_tell-requires c =
+    let w = c.in_ok-base.ensures in
+    let v = c.in_ok-make_room.ensures in
+    omega (arith, c.requires.configured.1, w.most, w.lent.cells, v.most, v.lent.cells)
+
+pub returns-in_err-must_tell : goal.returns-in_err-must_tell
 unfolding sync
-returns-in_default-synced c =
-    let some-initial : 0 < c.args.initial = omega (arith, c.if-initial-eq0.false) in
-    let synced : Drove (must (sync c.args.stream)) c.args.answers.now c.make_room-roomed.result.made c.make_room-roomed.new.log
-    (ending c.must_tell-synced.result) c.must_tell-synced.new.log = c.must_tell-synced.ensures in
-    rw c.stepped_at-in_default-synced.ensures
-    (sync-stopped c.requires.0 c.no_tables-p.ensures c.args.stream c.reserve_root-took.ensures c.in-On.is some-initial
-    c.make_room-roomed.result _ c.make_room-roomed.ensures c.in-On-roomed_ended.is c.must_tell-synced.result _ synced
-    c.in_default-synced.is)
+returns-in_err-must_tell c =
+    let p = err_from_is_err_and c.from_residual-in_err-must_tell.result c.from_residual-in_err-must_tell.ensures.1 in
+    rw (p.1, p.2)
+    (sync-stopped c.requires.configured.0 c.requires.empty c.args.stream c.in_ok-base.ensures (omega (arith, c.if-initial-eq0.false))
+    c.in_ok-make_room.ensures c.in_err-must_tell.ensures)
 
 pub returns : goal.returns
 unfolding sync
 returns c =
-    let some-initial : 0 < c.args.initial = omega (arith, c.if-initial-eq0.false) in
-    let synced : Drove (must (sync c.args.stream)) c.args.answers.now c.make_room-roomed.result.made c.make_room-roomed.new.log
-    (ending c.must_tell-synced.result) c.must_tell-synced.new.log = c.must_tell-synced.ensures in
-    pages-opened c.requires.0 c.no_tables-p.ensures c.args.stream c.reserve_root-took.ensures c.in-On.is some-initial
-    c.make_room-roomed.result _ c.make_room-roomed.ensures c.in-On-roomed_ended.is c.must_tell-synced.result _ synced c.in-On-synced.is
+    pages-opened c.requires.configured.0 c.requires.empty c.args.stream c.in_ok-base.ensures (omega (arith, c.if-initial-eq0.false))
+    c.in_ok-make_room.ensures c.in_ok-must_tell.ensures
