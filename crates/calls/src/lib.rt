@@ -109,8 +109,8 @@ impl Pool {
         if let Err(outcome) = enter(&mut pool, log.len() / 4) {
             return leaving::refuse(self, outcome);
         }
-        let spans = pool.free.count + pool.live.count;
-        if let Err(outcome) = refusing::size_refused(pool.page, spans, bytes) {
+        let spans = self.value.free.count + self.value.live.count;
+        if let Err(outcome) = refusing::size_refused(self.value.page, spans, bytes) {
             return leaving::refuse(self, outcome);
         }
         let mut driver = Driver::new(answers, log);
