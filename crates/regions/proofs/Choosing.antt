@@ -30,12 +30,12 @@ mapped-place (Some b) None m f = absurd m
 mapped-place (Some b) (Some i) m f = ap Some (f b i m)
 
 module _ {A : Type 0} (z : A) (l : List A) where
-  place_found : (b : Found Best) → chosen z l (place_of b) ≡ found z l b
+  pub place_found : (b : Found Best) → chosen z l (place_of b) ≡ found z l b
   unfolding chosen
   place_found None = refl
   place_found (Some b) = refl
 
-  place-placed : (b : Found Best) → ((x : Best) → b ≡ Some x → x.at < length l) → Placed l (place_of b)
+  pub place-placed : (b : Found Best) → ((x : Best) → b ≡ Some x → x.at < length l) → Placed l (place_of b)
   unfolding Placed
   place-placed None h = tt
   place-placed (Some b) h = h b refl

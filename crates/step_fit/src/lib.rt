@@ -59,9 +59,8 @@ pub fn fit(
     requires { Fittable free.old × RoomFor free.old.count driver.old }
     ensures { Fits (fit_step requested stream) driver.old free.old result driver.new free.new }
 {
-    let own = best_own(free, requested, stream);
-    if own.is_some() {
-        return Ok(own);
+    match best_own(free, requested, stream) {
+        Some(at) => Ok(Some(at)),
+        None => fit_other(free, requested, stream, driver),
     }
-    fit_other(free, requested, stream, driver)
 }
