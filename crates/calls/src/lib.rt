@@ -14,7 +14,7 @@ use pool_entry::{enter, enter_close};
 use step_close::close_steps;
 use step_free::free_steps;
 use step_malloc::malloc_steps;
-use step_open::{open_steps, with_no_tables};
+use step_open::open_steps;
 use tables::Outcome;
 use words::Address;
 
@@ -94,9 +94,8 @@ impl Pool {
             return leaving::refuse(Pool { value }, outcome);
         }
         let page = refusing::page_size(granularity, override_size);
-        let mut pool = with_no_tables(page, va_size);
         let mut driver = Driver::new(answers, log);
-        let ended = open_steps(&mut pool, initial_pages, initial_stream, &mut driver);
+        let (pool, ended) = open_steps(page, va_size, initial_pages, initial_stream, &mut driver);
         leaving::leave_opened(pool, ended, driver.made)
     }
 

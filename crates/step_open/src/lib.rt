@@ -17,7 +17,7 @@ use tables::{Outcome, Pool};
 use words::Word;
 
 // An open pool with no tables.
-pub fn with_no_tables(page: u64, va: u64) -> Pool
+fn no_tables(page: u64, va: u64) -> Pool
     ensures { result ≡ pool_of opened (no_tables page va) }
 {
     Pool {
@@ -29,7 +29,7 @@ pub fn with_no_tables(page: u64, va: u64) -> Pool
 }
 
 // A root, and room made in it for the initial pages, which are synced; the base and the page size are the answer.
-pub fn open_steps(
+fn open_in(
     pool: &mut Pool,
     initial: u64,
     stream: u64,
@@ -56,4 +56,20 @@ pub fn open_steps(
     make_room(pool, bytes, bytes, stream, driver)?;
     driver.must_tell(Word::Sync, stream, 0)?;
     Ok(Outcome::Opened(base, page))
+}
+
+// The pool that was opened, and how that ended.
+pub fn open_steps(
+    page: u64,
+    va: u64,
+    initial: u64,
+    stream: u64,
+    driver: &mut Driver,
+) -> (Pool, Result<Outcome, Outcome>)
+    requires { Configured page va initial × RoomFor open_calls driver.old }
+    ensures { PoolRan (open_steps initial stream) open_calls driver.old (pool_of opened (no_tables page va)) (ending result.1) driver.new result.0 }
+{
+    let mut pool = no_tables(page, va);
+    let ended = open_in(&mut pool, initial, stream, driver);
+    (pool, ended)
 }

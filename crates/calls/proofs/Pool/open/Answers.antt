@@ -27,24 +27,26 @@ returns-in-Err c =
     c.closed-value.result c.closed-value.ensures)
     c.refuse.ensures
 
-pub open_steps-ended-requires : goal.open_steps-ended-requires
-open_steps-ended-requires c =
-    let g = goal.at.open_steps-ended-requires c in
+pub open_steps-requires : goal.open_steps-requires
+open_steps-requires c =
+    let g = goal.at.open_steps-requires c in
     let a = c.args in
     let e = passes g.In_default-open_refused in
     let u = c.page_size-page.ensures in
-    let room = length a.log.now / 4 in
-    record {
-      configured = (?, omega (arith, long _ (begins g.After-new-driver)
-          (open-room a.granularity a.override_size a.va_size a.initial_pages a.initial_stream a.answers.now room e _ u)));
-      empty = ?;
-    }
+    let room = length a.log.now / 4 in (
+      open-configured a.granularity a.override_size a.va_size a.initial_pages a.initial_stream a.answers.now room e _ u,
+      omega (
+        arith,
+        long _ (begins g.After-new-driver)
+            (open-room a.granularity a.override_size a.va_size a.initial_pages a.initial_stream a.answers.now room e _ u),
+      ),
+    )
 
 pub returns : goal.returns
 returns c =
     let g = goal.at.returns c in
     let a = c.args in
     let t = no_tables c.page_size-page.result a.va_size in
-    replies-opened t (ap ? c.with_no_tables-pool.ensures ∙ tables-pool opened t) (begins g.After-new-driver) c.open_steps-ended.ensures
+    replies-opened t (tables-pool opened t) (begins g.After-new-driver) c.open_steps.ensures
     (open-goes a.granularity a.override_size a.va_size a.initial_pages a.initial_stream _ _ (passes g.In_default-open_refused) _ c.page_size-page.ensures)
     c.leave_opened.ensures
