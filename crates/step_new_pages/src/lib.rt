@@ -75,7 +75,8 @@ pub fn make_pages(
         let handle = match driver.create(page)? {
             Answer::Done(handle) => Handle(handle),
             Answer::Failed(2) => return roll_back(pages, holes, page, room, at, driver),
-            answer => return Err(Outcome::DriverFailed(answer.code())),
+            Answer::Failed(code) => return Err(Outcome::DriverFailed(code)),
+            Answer::Missing => return Err(Outcome::AnswersRanOut),
         };
         if is_active(pages, handle) {
             return Err(Outcome::Incredible);
