@@ -13,7 +13,7 @@ use Rattle.lists.proofs.Tests.{both}
 use Rattle.words.specs.Answers.{of_pair, lent}
 use Rattle.cells.specs.Table.{entries, pack}
 use Rattle.tables.specs.Bounds.{LOG}
-use Rattle.tables.specs.Values.{free_of, pack_free, live_of, pack_live, holes_of, pack_holes, zombies_of, pack_zombies, pages_of, pack_pages, roots_of, pack_roots, tables_of, in_order, pool_of}
+use Rattle.tables.specs.Values.{tables_of, in_order, pool_of}
 use Rattle.tables.specs.Steps.{◌>>=◌}
 use Rattle.tables.specs.Outcomes.{is}
 use Rattle.tables.specs.Driver as Driver

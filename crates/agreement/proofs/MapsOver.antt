@@ -9,7 +9,7 @@ use lib.Dec.{leb}
 use Rattle.words.specs.Answers.{of_pair, lent}
 use Rattle.cells.specs.Table.{entries, pack}
 use Rattle.tables.specs.Bounds.{LOG}
-use Rattle.tables.specs.Values.{free_of, pack_free, live_of, pack_live, holes_of, pack_holes, zombies_of, pack_zombies, pages_of, pack_pages, roots_of, pack_roots, tables_of, in_order, pool_of}
+use Rattle.tables.specs.Values.{tables_of, in_order, pool_of}
 use Rattle.tables.specs.Steps.{Step, ◌>>=◌, ◌>>◌, give, tables}
 use Rattle.tables.specs.Driver as Driver
 use Rattle.tables.specs.Driver.{must}
