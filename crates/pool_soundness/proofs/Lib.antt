@@ -6,4 +6,3 @@ pub mod TestsAreSound
 pub mod Ceilings
 pub mod RemainderMarks
 pub mod Rising
-pub mod Chains

@@ -7,7 +7,7 @@ use Rattle.std.proofs.lemmas.Iterator.{YieldsList-from_slice}
 use Rattle.std.proofs.lemmas.Iterator.Search.{all_from_yields_List}
 use Rattle.tables.specs.Values.{free_of}
 use Rattle.tables.specs.declared.FreeRegion.{FreeRegion}
-use Rattle.pool_soundness.proofs.Chains.{every_is}
+use Rattle.plain_tables.proofs.Chosen.{every_is}
 use Rattle.pool_soundness.proofs.names.free_ids_below.Goals as goal
 
 pub returns : goal.returns

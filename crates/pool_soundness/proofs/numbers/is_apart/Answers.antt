@@ -6,7 +6,7 @@ use lib.Dec.{eqb}
 use Rattle.std.proofs.Common.{rules, tests}
 use Rattle.std.proofs.lemmas.Iterator.{YieldsList-from_slice}
 use Rattle.std.proofs.lemmas.Iterator.Search.{all_from_yields_List}
-use Rattle.pool_soundness.proofs.Chains.{every_is}
+use Rattle.plain_tables.proofs.Chosen.{every_is}
 use Rattle.pool_soundness.proofs.numbers.is_apart.Goals as goal
 
 pub returns-else-not-is_marked : goal.returns-else-not-is_marked

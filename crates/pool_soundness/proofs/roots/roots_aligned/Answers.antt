@@ -10,7 +10,7 @@ use Rattle.words.specs.declared.Address.{Address}
 use Rattle.tables.specs.Bounds.{END}
 use Rattle.tables.specs.Values.{roots_of}
 use Rattle.tables.specs.WellFormed.{whole}
-use Rattle.pool_soundness.proofs.Chains.{every_is}
+use Rattle.plain_tables.proofs.Chosen.{every_is}
 use Rattle.pool_soundness.proofs.roots.roots_aligned.Goals as goal
 
 pub returns : goal.returns

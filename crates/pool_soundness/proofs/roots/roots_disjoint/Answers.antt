@@ -8,7 +8,7 @@ use Rattle.std.proofs.lemmas.Iterator.Search.{all_from_yields_List}
 use Rattle.lists.specs.Tests.{every, pairwise}
 use Rattle.words.specs.declared.Address.{Address}
 use Rattle.tables.specs.TakeRange.{apart}
-use Rattle.pool_soundness.proofs.Chains.{every_is}
+use Rattle.plain_tables.proofs.Chosen.{every_is}
 use Rattle.pool_soundness.proofs.roots.roots_disjoint.Goals as goal
 
 pub loop-a-preserved : goal.loop-a-preserved
