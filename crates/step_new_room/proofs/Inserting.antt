@@ -1,11 +1,10 @@
 -- What `insert_new` needs and leaves, by how its two calls ended.
-use mathlib.Core.Path.{◌≡◌, refl}
+use mathlib.Core.Path.{refl}
 use mathlib.Core.List.{List}
-use mathlib.Core.Option.{some}
 use Prim.Native.Nat.{ℕ, ◌+◌, ◌≤◌, ◌<◌}
 use native.Mathlib.Omega.{arith}
 use borrow.Author.Tests.{ne_eqb}
-use Rattle.std.specs.Prelude.{Result, Ok, Err}
+use Rattle.std.specs.Prelude.{Result, Err}
 use Rattle.words.specs.declared.Word.TheVariants.{Access}
 use Rattle.tables.specs.Values.{FreeRegions, tables_of}
 use Rattle.tables.specs.Steps.{Ending, ends, on}

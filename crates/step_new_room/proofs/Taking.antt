@@ -1,7 +1,7 @@
 -- What `take_room` leaves, by how its two calls ended: each way out of it is a way of the rule.
-use mathlib.Core.Path.{◌≡◌, refl, ap, sym, ◌∙◌}
+use mathlib.Core.Path.{◌≡◌, refl, ap, sym}
 use mathlib.Core.Bool.{true}
-use Prim.Native.Nat.{ℕ, ◌+◌, ◌*◌, ◌-◌, ◌/◌, ◌≤◌, ◌<◌}
+use Prim.Native.Nat.{ℕ, ◌*◌, ◌-◌, ◌/◌, ◌≤◌, ◌<◌}
 use native.Mathlib.Omega.{arith}
 use Rattle.std.specs.Prelude.{Result, Ok, Err}
 use Rattle.words.specs.declared.Address.{Address}
@@ -15,7 +15,7 @@ use Rattle.tables.specs.NewPages.{make_pages}
 use Rattle.tables.specs.declared.Pool.{Pool}
 use Rattle.tables.specs.declared.Outcome.{Outcome}
 use Rattle.tables.proofs.Packs.{holes-count, roots-count}
-use Rattle.driving.specs.Ran.{Ran, RoomFor, Lent, stands}
+use Rattle.driving.specs.Ran.{Ran, RoomFor, stands}
 use Rattle.driving.specs.Endings.{ending}
 use Rattle.driving.specs.declared.Driver.{Driver}
 use Rattle.driving.proofs.Lent.{lent-then, room-left}

@@ -46,14 +46,7 @@ pub fn take_room(
         stream,
     };
     let count = (missing / page) as usize;
-    make_pages(
-        &mut pool.pages,
-        &mut pool.holes,
-        page,
-        room,
-        count,
-        driver,
-    )?;
+    make_pages(&mut pool.pages, &mut pool.holes, page, room, count, driver)?;
     Ok(room)
 }
 

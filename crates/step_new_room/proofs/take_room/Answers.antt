@@ -1,7 +1,6 @@
 -- `step_new_room::take_room` meets its contract: its two calls are the steps of the rule in order.
 use native.Mathlib.Omega.{arith}
 use Rattle.std.proofs.lemmas.Result.{err_from_is_err_and}
-use Rattle.driving.proofs.Lent.{room-left}
 use Rattle.step_new_room.proofs.Taking.{takeable, root-fits, range-stopped, ready, pages-stopped, pages-took}
 use Rattle.step_new_room.proofs.take_room.Goals as goal
 
