@@ -92,7 +92,7 @@ module _ {m : Step Outcome} {bound : ℕ} {d d' : Driver} {q q' : tables.Pool} {
   left_is =
       let r = steps-ran in
       let made : d'.made ≡ length r.records = omega (arith, r.made) in
-      rw (r.goes, made)
+      rw r.goes (ap (leaving p q' (outcome_of e)) made)
 
   pub replies-left : {w : Reply} {r : Called} → w ≡ finished p.value (m xs 0 t) → r ≡ leaving p q' (outcome_of e) d'.made → Replies w r l d'.log.now
   unfolding finished

@@ -1,5 +1,5 @@
 -- Open: refused, or what its steps need and what is handed back of them.
-use mathlib.Core.Path.{◌≡◌, ◌∙◌}
+use mathlib.Core.Path.{◌≡◌, ap, ◌∙◌}
 use mathlib.Core.Bool.{true, false, cond}
 use mathlib.Core.List.{List}
 use mathlib.Core.Logic.{⊎_elim}
@@ -100,7 +100,7 @@ module _ {m : Step Outcome} {bound : ℕ} {d d' : Driver} {q q' : tables.Pool} {
   opened-is =
       let r = steps-ran (record { value = q }) t same b c in
       let made : d'.made ≡ length r.records = omega (arith, r.made) in
-      rw (r.goes, made)
+      rw r.goes (ap (leaving_opened q' (outcome_of e)) made)
 
   pub replies-opened : {w : Reply} {r : Called} → w ≡ open_finished (m xs 0 t) → r ≡ leaving_opened q' (outcome_of e) d'.made → Replies w r l d'.log.now
   unfolding open_finished

@@ -36,11 +36,20 @@ pub fn page_size(granularity: u64, override_size: u64) -> u64
 fn is_bad(granularity: u64, override_size: u64, va: u64, initial: u64) -> bool
     ensures { result ≡ bad_configuration granularity override_size va initial }
 {
-    if granularity == 0 || override_size % granularity != 0 {
+    if granularity == 0 {
+        return true;
+    }
+    if override_size % granularity != 0 {
         return true;
     }
     let page = page_size(granularity, override_size);
-    !is_allowed(page, va) || initial > Pool::PAGES as u64 || initial * page > va
+    if !is_allowed(page, va) {
+        return true;
+    }
+    if initial > Pool::PAGES as u64 {
+        return true;
+    }
+    initial * page > va
 }
 
 // 4, and then 19. `room` counts the records that the log has room for.
