@@ -82,10 +82,6 @@ module _ {n m : ℕ} {p : Pool} (g : Roomable n m p) where
   unfolding tables_of
   root-fits e = omega (arith, g.takes.root e, roots-count p.roots g.kept.roots)
 
-  pub page-positive : 0 < p.page
-  unfolding tables_of
-  page-positive = g.takes.sound.page
-
   lack : m ≡ n - free_bytes p
   unfolding tables_of
   lack = g.lacks
