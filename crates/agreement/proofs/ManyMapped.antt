@@ -11,8 +11,9 @@ use lib.ListN.{length}
 use Rattle.lists.specs.Tests.{every}
 use Rattle.lists.proofs.Tests.{both}
 use Rattle.words.specs.Answers.{of_pair, lent}
+use Rattle.cells.specs.Table.{entries, pack}
 use Rattle.tables.specs.Bounds.{LOG}
-use Rattle.tables.specs.Values.{free_of, pack_free, live_of, pack_live, holes_of, pack_holes, zombies_of, pack_zombies, pages_of, pack_pages, roots_of, pack_roots, tables_of, in_order, pool_of}
+use Rattle.tables.specs.Values.{tables_of, in_order, pool_of}
 use Rattle.tables.specs.Steps.{◌>>=◌}
 use Rattle.tables.specs.Outcomes.{is}
 use Rattle.tables.specs.Driver as Driver
@@ -124,7 +125,7 @@ calls = moves 64 1064 1
 
 computed : (let ls = entry (open_line 1 4160 64) (opened opening) in
     is 0 (opened opening).outcome && (fair ls && exceeds (opened opening).pool (mapped_in [] ls) calls)) ≡ true
-unfolding ◌>>=◌ free_of pack_free live_of pack_live holes_of pack_holes zombies_of pack_zombies pages_of pack_pages roots_of pack_roots tables_of in_order pool_of of_pair lent Driver.reserve Driver.create Driver.map Driver.access Driver.unmap Driver.release Driver.record_event Driver.ask Driver.wait Driver.sync Driver.giveback insert_hole insert_free TakeRange.smallest_hole TakeRange.cut_hole TakeRange.credible TakeRange.reserve_root TakeRange.take_hole TakeRange.take_range map_page unmake roll_back created insert_new settle pull_one pull_in fill make_room clean cleanup take_over or_other fit allowed ceilings_kept sound well_formed finished admitted open_steps bad_configuration open_finished open_pool room_refused or_room hand_over malloc_steps malloc_by free_steps free_found free close_steps close_finished close said Premises.reliable Premises.credible Premises.mapped_after
+unfolding ◌>>=◌ entries pack tables_of in_order pool_of of_pair lent Driver.reserve Driver.create Driver.map Driver.access Driver.unmap Driver.release Driver.record_event Driver.ask Driver.wait Driver.sync Driver.giveback insert_hole insert_free TakeRange.smallest_hole TakeRange.cut_hole TakeRange.credible TakeRange.reserve_root TakeRange.take_hole TakeRange.take_range map_page unmake roll_back created insert_new settle pull_one pull_in fill make_room clean cleanup take_over or_other fit allowed ceilings_kept sound well_formed finished admitted open_steps bad_configuration open_finished open_pool room_refused or_room hand_over malloc_steps malloc_by free_steps free_found free close_steps close_finished close said Premises.reliable Premises.credible Premises.mapped_after
 computed = refl
 
 opens : (is 0 (opened opening).outcome ≡ true) × Exceeding [] (trace_of opening calls)

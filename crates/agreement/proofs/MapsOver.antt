@@ -7,8 +7,9 @@ use mathlib.Core.Option.{Option, some, none}
 use Prim.Native.Nat.{ℕ, ◌+◌, ◌-◌, ◌/◌}
 use lib.Dec.{leb}
 use Rattle.words.specs.Answers.{of_pair, lent}
+use Rattle.cells.specs.Table.{entries, pack}
 use Rattle.tables.specs.Bounds.{LOG}
-use Rattle.tables.specs.Values.{free_of, pack_free, live_of, pack_live, holes_of, pack_holes, zombies_of, pack_zombies, pages_of, pack_pages, roots_of, pack_roots, tables_of, in_order, pool_of}
+use Rattle.tables.specs.Values.{tables_of, in_order, pool_of}
 use Rattle.tables.specs.Steps.{Step, ◌>>=◌, ◌>>◌, give, tables}
 use Rattle.tables.specs.Driver as Driver
 use Rattle.tables.specs.Driver.{must}
@@ -91,7 +92,7 @@ third = 0 ∷ 72 ∷ 0 ∷ 0 ∷ 0 ∷ 0 ∷ 0 ∷ 0 ∷ 0 ∷ 0 ∷ 0 ∷ 0 ∷
 
 -- the verdict on the three calls, the last by `steps`
 unfoldable tried_by : (ℕ → ℕ → Step Outcome) → Verdict
-unfolding ◌>>=◌ free_of pack_free live_of pack_live holes_of pack_holes zombies_of pack_zombies pages_of pack_pages roots_of pack_roots tables_of in_order pool_of of_pair lent Driver.reserve Driver.create Driver.map Driver.access Driver.unmap Driver.release Driver.record_event Driver.ask Driver.wait Driver.sync Driver.giveback insert_hole insert_free TakeRange.smallest_hole TakeRange.cut_hole TakeRange.credible TakeRange.reserve_root TakeRange.take_hole TakeRange.take_range map_page unmake roll_back created insert_new settle pull_one pull_in fill make_room clean cleanup take_over or_other fit allowed ceilings_kept sound well_formed finished admitted open_steps bad_configuration open_finished open_pool room_refused or_room hand_over malloc_steps malloc_by free_steps free_found free close_steps close_finished close said pages whole_pages none_live no_handle_twice credible in_reservation ruled sized R0 R1 R2 R3 R4 R5 R6 R7 R8 R9_recorded R9_asked R10 recorded answered taken judged at_end verdict
+unfolding ◌>>=◌ entries pack tables_of in_order pool_of of_pair lent Driver.reserve Driver.create Driver.map Driver.access Driver.unmap Driver.release Driver.record_event Driver.ask Driver.wait Driver.sync Driver.giveback insert_hole insert_free TakeRange.smallest_hole TakeRange.cut_hole TakeRange.credible TakeRange.reserve_root TakeRange.take_hole TakeRange.take_range map_page unmake roll_back created insert_new settle pull_one pull_in fill make_room clean cleanup take_over or_other fit allowed ceilings_kept sound well_formed finished admitted open_steps bad_configuration open_finished open_pool room_refused or_room hand_over malloc_steps malloc_by free_steps free_found free close_steps close_finished close said pages whole_pages none_live no_handle_twice credible in_reservation ruled sized R0 R1 R2 R3 R4 R5 R6 R7 R8 R9_recorded R9_asked R10 recorded answered taken judged at_end verdict
 tried_by steps =
     let p = (answers (opened opening).pool first.call first.answers LOG).pool in
     let q = (answers p second.call second.answers LOG).pool in

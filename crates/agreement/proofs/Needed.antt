@@ -6,8 +6,9 @@ use mathlib.Core.List.{List, [], ◌∷◌, map}
 use Prim.Native.Nat.{ℕ}
 use Rattle.lists.specs.Tests.{every}
 use Rattle.words.specs.Answers.{of_pair, lent}
+use Rattle.cells.specs.Table.{entries, pack}
 use Rattle.tables.specs.Bounds.{LOG}
-use Rattle.tables.specs.Values.{free_of, pack_free, live_of, pack_live, holes_of, pack_holes, zombies_of, pack_zombies, pages_of, pack_pages, roots_of, pack_roots, tables_of, in_order, pool_of}
+use Rattle.tables.specs.Values.{tables_of, in_order, pool_of}
 use Rattle.tables.specs.Steps.{◌>>=◌}
 use Rattle.tables.specs.Outcomes.{is}
 use Rattle.tables.specs.Driver as Driver
@@ -52,7 +53,7 @@ abbrev asks : Call → List ℕ → Lent
 asks c xs = record { call = c; answers = xs; log = LOG }
 
 unfoldable tried : Opening → List Lent → Tried
-unfolding ◌>>=◌ free_of pack_free live_of pack_live holes_of pack_holes zombies_of pack_zombies pages_of pack_pages roots_of pack_roots tables_of in_order pool_of of_pair lent Driver.reserve Driver.create Driver.map Driver.access Driver.unmap Driver.release Driver.record_event Driver.ask Driver.wait Driver.sync Driver.giveback insert_hole insert_free TakeRange.smallest_hole TakeRange.cut_hole TakeRange.credible TakeRange.reserve_root TakeRange.take_hole TakeRange.take_range map_page unmake roll_back created insert_new settle pull_one pull_in fill make_room clean cleanup take_over or_other fit allowed ceilings_kept sound well_formed finished admitted open_steps bad_configuration open_finished open_pool room_refused or_room hand_over malloc_steps malloc_by free_steps free_found free close_steps close_finished close said pages whole_pages none_live no_handle_twice credible in_reservation ruled sized R0 R1 R2 R3 R4 R5 R6 R7 R8 R9_recorded R9_asked R10 recorded answered taken judged at_end verdict Premises.reliable Premises.credible Premises.mapped_after
+unfolding ◌>>=◌ entries pack tables_of in_order pool_of of_pair lent Driver.reserve Driver.create Driver.map Driver.access Driver.unmap Driver.release Driver.record_event Driver.ask Driver.wait Driver.sync Driver.giveback insert_hole insert_free TakeRange.smallest_hole TakeRange.cut_hole TakeRange.credible TakeRange.reserve_root TakeRange.take_hole TakeRange.take_range map_page unmake roll_back created insert_new settle pull_one pull_in fill make_room clean cleanup take_over or_other fit allowed ceilings_kept sound well_formed finished admitted open_steps bad_configuration open_finished open_pool room_refused or_room hand_over malloc_steps malloc_by free_steps free_found free close_steps close_finished close said pages whole_pages none_live no_handle_twice credible in_reservation ruled sized R0 R1 R2 R3 R4 R5 R6 R7 R8 R9_recorded R9_asked R10 recorded answered taken judged at_end verdict Premises.reliable Premises.credible Premises.mapped_after
 tried o cs =
     let lines = trace_of o cs in
     record {

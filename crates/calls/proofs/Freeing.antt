@@ -7,49 +7,33 @@ use lib.Dec.{eqb}
 use lib.ListN.{length, get_or}
 use Rattle.lists.specs.Tests.{first}
 use Rattle.tables.specs.Values.{address, opened, live_of, tables_of, at_entry, pool_of, empty_buffer}
-use Rattle.tables.specs.Choices.{chosen, Placed}
-use Rattle.tables.specs.Kept.{KeptPool}
+use Rattle.cells.specs.Table.{chosen, Placed}
 use Rattle.tables.specs.HandsBack.{refused, finished}
 use Rattle.tables.specs.Free.{free_steps, free_found, free}
 use Rattle.tables.specs.declared.Pool.{Pool}
-use Rattle.tables.specs.declared.Choice.{Choice}
-use Rattle.tables.specs.declared.Choice.TheVariants.{At, Nothing}
+use Rattle.cells.specs.Table.{Choice}
+use Rattle.std.specs.Prelude.{Some, None}
 use Rattle.tables.specs.declared.Outcome.TheVariants.{InvalidPointer}
 use Rattle.tables.proofs.Packs.{live-count}
 use Rattle.keeping.proofs.WellFormedEnters.{enters}
 use Rattle.pool_entry.specs.Promises.{Admitted}
-use Rattle.driving.specs.Pools.{CallRan}
-use Rattle.step_free.specs.Promises.{Freeable, FreeRan, holding, stepped_in}
-use Rattle.step_free.specs.declared.Freed.{Freed}
-use Rattle.calls.specs.Promises.{Replies}
-use Rattle.calls.specs.Leaving.{leaving}
-use Rattle.calls.specs.declared.Called.{Called}
-use Rattle.calls.proofs.Left.{replies-left}
+use Rattle.step_free.specs.Promises.{Freeable}
 use Rattle.calls.proofs.Reading.{read_kept, read-tables, read-counter}
 
 module _ (p : Pool) (room : ℕ) (a : Admitted p room) (q : Pool) (e : q ≡ pool_of opened (at_entry p)) where
-  pub freeable : (i : ℕ) (c : Choice) → c ≡ At i → Placed (live_of q.live) c → Freeable i q.live q.free q.counter
+  pub freeable : (i : ℕ) (c : Choice) → c ≡ Some i → Placed (live_of q.live) c → Freeable i q
   unfolding Placed
   freeable i c h w =
       let d = enters p a.state a.form in
       let k = read_kept p q opened e a.form in
       let within : i < length (live_of q.live) = rw h at w in
       record {
-        around = q;
         tables = k;
         lost = d.lost;
         kept = rw (read-tables p q opened e) d.kept;
         ids = omega (arith, a.ids, read-counter p q opened e);
         placed = omega (arith, within, live-count q.live k.live);
       }
-
-  -- the steps, over the pool that was read
-  module _ {i : ℕ} {xs l : List ℕ} {f : Freed} {l' : List ℕ} (s : FreeRan i q.live q.free q.counter xs 0 l f l') where
-    steps-ran : CallRan (free_steps (get_or (live_of q.live) i empty_buffer)) 1 xs q 0 l (stepped_in q f) l'
-    steps-ran = s.ran q (read_kept p q opened e a.form)
-
-    pub kept-left : KeptPool (holding f.live f.free f.counter q)
-    kept-left = steps-ran.walked.kept
 
   module _ (start : ℕ) (xs : List ℕ) (c : Choice)
       (found : chosen empty_buffer (live_of q.live) c ≡ first (λ b. eqb b.start.0 start) (live_of q.live)) where
@@ -61,15 +45,11 @@ module _ (p : Pool) (room : ℕ) (a : Admitted p room) (q : Pool) (e : q ≡ poo
         ∙ ap (free_found p start xs) (sym found)
 
     -- 16
-    pub free-none : c ≡ Nothing → free p start xs room ≡ refused p (InvalidPointer (address start))
+    pub free-none : c ≡ None → free p start xs room ≡ refused p (InvalidPointer (address start))
     unfolding free_found chosen
     free-none h = searched ∙ ap (λ z. free_found p start xs (chosen empty_buffer (live_of q.live) z)) h
 
-    free-some : (i : ℕ) → c ≡ At i →
+    pub free-some : (i : ℕ) → c ≡ Some i →
         free p start xs room ≡ finished p (free_steps (get_or (live_of q.live) i empty_buffer) xs 0 (at_entry p))
     unfolding free_found chosen
     free-some i h = searched ∙ ap (λ z. free_found p start xs (chosen empty_buffer (live_of q.live) z)) h
-
-    pub free-left : (i : ℕ) → c ≡ At i → {l : List ℕ} {f : Freed} {l' : List ℕ} → FreeRan i q.live q.free q.counter xs 0 l f l' → {r : Called} →
-        r ≡ leaving (record { value = p }) (stepped_in q f) → Replies (free p start xs room) r l l'
-    free-left i h s w = replies-left (record { value = p }) (at_entry p) (read-tables p q opened e) (steps-ran s) (free-some i h) w

@@ -16,7 +16,7 @@ use Rattle.tables.specs.declared.Pool.{Pool}
 use Rattle.tables.specs.declared.Outcome.{Outcome}
 use Rattle.tables.specs.declared.Outcome.TheVariants.{BadSize, SpansFull}
 use Rattle.keeping.proofs.WellFormedEnters.{enters, entry-page, entry-spans}
-use Rattle.driving.specs.declared.Ended.TheVariants.{On, Ends}
+use Rattle.std.specs.Prelude.{Ok, Err}
 use Rattle.pool_soundness.proofs.Ceilings.{counted}
 use Rattle.pool_entry.specs.Promises.{Admitted}
 use Rattle.step_malloc.specs.Promises.{Mallocable}
@@ -35,20 +35,20 @@ module _ (p : Pool) (room : ℕ) (a : Admitted p room) where
 
   module _ (n s : ℕ) (xs : List ℕ) where
     -- 6, 7
-    pub malloc-refused : (o : Outcome) → size_refused p.page (p.free.count + p.live.count) n ≡ Ends o → malloc p n s xs room ≡ refused p o
+    pub malloc-refused : (o : Outcome) → size_refused p.page (p.free.count + p.live.count) n ≡ Err o → malloc p n s xs room ≡ refused p o
     unfolding malloc_by
     malloc-refused o e =
         a.passes _
         ∙ tests-stop p (BadSize n) SpansFull _ (eqb n 0 || not (eqb (n % p.page) 0)) (leb SPANS (p.free.count + p.live.count)) o e
 
-    module _ (e : size_refused p.page (p.free.count + p.live.count) n ≡ On) where
+    module _ (e : size_refused p.page (p.free.count + p.live.count) n ≡ Ok tt) where
       pub malloc-goes : malloc p n s xs room ≡ finished p (malloc_steps n s xs 0 (at_entry p))
       unfolding malloc_by
       malloc-goes =
           a.passes _
           ∙ (tests-pass p (BadSize n) SpansFull _ (eqb n 0 || not (eqb (n % p.page) 0)) (leb SPANS (p.free.count + p.live.count)) e).1.1
 
-  pub mallocable : (n : ℕ) → size_refused p.page (p.free.count + p.live.count) n ≡ On → (q : Pool) → q ≡ pool_of opened (at_entry p) → Mallocable n q
+  pub mallocable : (n : ℕ) → size_refused p.page (p.free.count + p.live.count) n ≡ Ok tt → (q : Pool) → q ≡ pool_of opened (at_entry p) → Mallocable n q
   mallocable n e q r =
       let spans = p.free.count + p.live.count in
       let d = enters p a.state a.form in

@@ -1,5 +1,5 @@
 -- The pool that a call read: its tables are kept, and those at entry.
-use mathlib.Core.Path.{◌≡◌, ap, sym, ◌∙◌}
+use mathlib.Core.Path.{◌≡◌, ap, ◌∙◌}
 use mathlib.Core.Bool.{true}
 use Prim.Native.Nat.{ℕ}
 use Rattle.lists.proofs.Tests.{both}
@@ -7,10 +7,9 @@ use Rattle.tables.specs.Values.{opened, tables_of, in_order, at_entry, pool_of}
 use Rattle.tables.specs.Kept.{KeptPool}
 use Rattle.tables.specs.WellFormed.{ceilings_kept, well_formed}
 use Rattle.tables.specs.declared.Pool.{Pool}
-use Rattle.tables.proofs.Packs.{tables-pool, pool-whole}
+use Rattle.tables.proofs.Packs.{tables-pool}
 use Rattle.keeping.proofs.WellFormedEnters.{ceilings-read}
 use Rattle.driving.proofs.Pools.{pool-kept}
-use Rattle.pool_entry.specs.Promises.{Stands}
 
 -- so that it may be read
 pub ceilings-of : (p : Pool) → well_formed p ≡ true → ceilings_kept p ≡ true
@@ -19,10 +18,6 @@ ceilings-of p form = (both (ceilings_kept p) _ form).0
 
 pub read_opened : (p q : Pool) → p.state ≡ opened → q ≡ pool_of p.state (at_entry p) → q ≡ pool_of opened (at_entry p)
 read_opened p q o e = e ∙ ap (λ s. pool_of s (at_entry p)) o
-
--- an open pool that stands is read as it is
-pub stands_read : (p : Pool) → p.state ≡ opened → Stands p → p ≡ pool_of opened (at_entry p)
-stands_read p o s = pool-whole p s.kept ∙ ap (λ n. pool_of n (tables_of p)) o ∙ ap (pool_of opened) (sym s.same)
 
 module _ (p q : Pool) (s : ℕ) (e : q ≡ pool_of s (at_entry p)) where
   pub read_kept : well_formed p ≡ true → KeptPool q

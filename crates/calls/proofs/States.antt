@@ -1,35 +1,39 @@
 -- The state that an outcome leaves, by its number.
-use mathlib.Core.Path.{◌≡◌, refl}
+use mathlib.Core.Path.{◌≡◌, refl, ap, sym}
 use mathlib.Core.Bool.{Bool, true, false, cond, ◌||◌}
 use Prim.Native.Nat.{ℕ}
 use native.Mathlib.Omega.{arith}
-use Rattle.tables.specs.Values.{closed, opened, stopped}
+use Rattle.std.specs.Prelude.{Some, None, Option as State}
+use Rattle.tables.specs.Values.{opened, stopped}
 use Rattle.tables.specs.Outcomes.{is}
 use Rattle.tables.specs.declared.Outcome.{Outcome}
 use Rattle.calls.specs.Leaving.{state_after, opened_after}
 
--- a state that is 0 is that of the test
-by-test : (b : Bool) (n : ℕ) → (n ≡ closed → ⊥) → cond b closed n ≡ closed → b ≡ true
-by-test true n z e = refl
-by-test false n z e = absurd (z e)
+-- the state, `z` where there is none
+abbrev state_or : ℕ → State ℕ → ℕ
+state_or z None = z
+state_or z (Some n) = n
 
-by_state : (b : Bool) (n : ℕ) → (cond b closed n ≡ closed → ⊥) → (b ≡ false) × (cond b closed n ≡ n)
-by_state true n h = absurd (h refl)
-by_state false n h = (refl, refl)
+none-some : {A : Type 0} {n : ℕ} → ◌≡◌ {A = State ℕ} None (Some n) → A
+none-some e = let z : ◌≡◌ {A = ℕ} 0 1 = cc in absurd (omega arith)
 
-some : (b : Bool) (m n : ℕ) → (m ≡ closed → ⊥) → (n ≡ closed → ⊥) → cond b m n ≡ closed → ⊥
-some true m n p q e = p e
-some false m n p q e = q e
+by-test : (b : Bool) (n : ℕ) → cond b None (Some n) ≡ None → b ≡ true
+by-test true n e = refl
+by-test false n e = none-some (sym e)
+
+by_state : (b : Bool) (n s : ℕ) → cond b None (Some n) ≡ Some s → (b ≡ false) × (s ≡ n)
+by_state true n s e = none-some e
+by_state false n s e = (refl, ap (state_or s) (sym e))
 
 module _ (o : Outcome) where
-  pub is-short : state_after o ≡ closed → is 17 o ≡ true
-  is-short e = by-test (is 17 o) _ (some (is 14 o || is 15 o) stopped opened (λ z. omega arith) (λ z. omega arith)) e
+  pub is-short : state_after o ≡ None → is 17 o ≡ true
+  is-short e = by-test (is 17 o) _ e
 
-  pub is-left : (state_after o ≡ closed → ⊥) → (is 17 o ≡ false) × (state_after o ≡ cond (is 14 o || is 15 o) stopped opened)
-  is-left n = by_state (is 17 o) _ n
+  pub is-left : {s : ℕ} → state_after o ≡ Some s → (is 17 o ≡ false) × (s ≡ cond (is 14 o || is 15 o) stopped opened)
+  is-left {s} e = by_state (is 17 o) _ s e
 
-  pub is-short-open : opened_after o ≡ closed → is 17 o ≡ true
-  is-short-open e = by-test (is 17 o) _ (some (is 0 o) opened stopped (λ z. omega arith) (λ z. omega arith)) e
+  pub is-short-open : opened_after o ≡ None → is 17 o ≡ true
+  is-short-open e = by-test (is 17 o) _ e
 
-  pub is-left-open : (opened_after o ≡ closed → ⊥) → (is 17 o ≡ false) × (opened_after o ≡ cond (is 0 o) opened stopped)
-  is-left-open n = by_state (is 17 o) _ n
+  pub is-left-open : {s : ℕ} → opened_after o ≡ Some s → (is 17 o ≡ false) × (s ≡ cond (is 0 o) opened stopped)
+  is-left-open {s} e = by_state (is 17 o) _ s e

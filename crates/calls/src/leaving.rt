@@ -1,149 +1,111 @@
 // What a call hands back, by how it ended.
 ghost use Rattle.std.specs.Prelude.{◌≡◌, ◌-◌};
 ghost use Rattle.tables.specs.Kept.{KeptPool};
-ghost use Rattle.calls.specs.Leaving.{state_after, opened_after, Refuses, leaving, leaving_opened, leaving_short, leaving_closed};
+ghost use Rattle.tables.specs.HandsBack.{outcome_of};
+ghost use Rattle.driving.specs.Endings.{ending};
+ghost use Rattle.calls.specs.Leaving.{state_after, opened_after, leaving, leaving_opened, leaving_short, leaving_closed, leaving_refused};
 
 use super::{Called, Pool};
-use driving::{Ended, Stepped};
 use tables::Outcome;
 
-// The state that an outcome leaves: 2 for 14 and 15, 1 else; 0 stands for the pool as at entry, which is 17's.
-pub fn state_after(outcome: Outcome) -> u64
+// The state that an outcome leaves: 2 for 14 and 15, 1 else; none for 17, which leaves the pool as at entry.
+fn state_after(outcome: Outcome) -> Option<u64>
     ensures { result ≡ state_after outcome }
 {
-    let numbers = outcome.numbers();
-    let number = numbers.number;
-    if number == 17 {
-        return 0;
+    match outcome {
+        Outcome::AnswersRanOut => None,
+        Outcome::DriverFailed(_) | Outcome::Incredible => Some(2),
+        _ => Some(1),
     }
-    if number == 14 {
-        return 2;
-    }
-    if number == 15 {
-        return 2;
-    }
-    1
 }
 
-// The state that an outcome of open leaves: 1 for success, 2 else; 0 stands for a closed pool, which is 17's.
-fn opened_after(outcome: Outcome) -> u64
+// The state that an outcome of open leaves: 1 for success, 2 else; none for 17, which leaves a closed pool.
+fn opened_after(outcome: Outcome) -> Option<u64>
     ensures { result ≡ opened_after outcome }
 {
-    let numbers = outcome.numbers();
-    let number = numbers.number;
-    if number == 17 {
-        return 0;
+    match outcome.numbers().number {
+        17 => None,
+        0 => Some(1),
+        _ => Some(2),
     }
-    if number == 0 {
-        return 1;
+}
+
+// Whether the steps went on to their last or ended before it, the outcome is this.
+fn outcome_of(ended: Result<Outcome, Outcome>) -> Outcome
+    ensures { result ≡ outcome_of (ending ended) }
+{
+    match ended {
+        Ok(outcome) | Err(outcome) => outcome,
     }
-    2
 }
 
 // A refusal at entry: the pool as it came, and no record.
-pub fn refuse(pool: Pool, ended: Ended) -> Called
-    ensures { Refuses pool ended result }
+pub fn refuse(pool: Pool, outcome: Outcome) -> Called
+    ensures { result ≡ leaving_refused pool outcome }
 {
-    match ended {
-        Ended::Ends(outcome) => Called {
-            pool,
-            outcome,
-            records: 0,
-            taken: 0,
-        },
-        Ended::On => Called {
-            pool,
-            outcome: Outcome::NotWellFormed,
-            records: 0,
-            taken: 0,
-        },
+    Called {
+        pool,
+        outcome,
+        records: 0,
+        taken: 0,
     }
 }
 
-// The answers that were taken at 17: its last record has none.
-fn all_but_one(made: usize) -> usize
-    ensures { result ≡ made - 1 }
+// The pool is stopped by 14 and 15; 17 hands back the one that came, `pool`.
+pub fn leave(
+    pool: Pool,
+    mut left: tables::Pool,
+    ended: Result<Outcome, Outcome>,
+    made: usize,
+) -> Called
+    requires { KeptPool left }
+    ensures { result ≡ leaving pool left (outcome_of (ending ended)) made }
 {
-    if made == 0 {
-        return 0;
-    }
-    made - 1
-}
-
-// The pool is stopped by 14 and 15; 17 hands back the one that came.
-pub fn leave(pool: Pool, stepped: Stepped) -> Called
-    requires { KeptPool stepped.pool }
-    ensures { result ≡ leaving pool stepped }
-{
-    let outcome = stepped.outcome;
-    let records = stepped.made;
-    let state = state_after(outcome);
-    if state == 0 {
-        let taken = all_but_one(records);
-        return Called {
-            pool,
-            outcome,
-            records,
-            taken,
-        };
-    }
-    let mut left = stepped.pool;
+    let outcome = outcome_of(ended);
+    let Some(state) = state_after(outcome) else {
+        return leave_short(pool, outcome, made);
+    };
     left.state = state;
     Called {
         pool: Pool { value: left },
-        outcome,
-        records,
-        taken: records,
-    }
-}
-
-// Open gives a closed pool if it ends in 17 or has no root.
-pub fn leave_opened(stepped: Stepped) -> Called
-    requires { KeptPool stepped.pool }
-    ensures { result ≡ leaving_opened stepped }
-{
-    let outcome = stepped.outcome;
-    let made = stepped.made;
-    let state = opened_after(outcome);
-    if state == 0 {
-        let value = tables::Pool::closed();
-        let taken = all_but_one(made);
-        return Called {
-            pool: Pool { value },
-            outcome,
-            records: made,
-            taken,
-        };
-    }
-    let mut value = stepped.pool;
-    if value.roots.count == 0 {
-        let empty = tables::Pool::closed();
-        return Called {
-            pool: Pool { value: empty },
-            outcome,
-            records: made,
-            taken: made,
-        };
-    }
-    value.state = state;
-    Called {
-        pool: Pool { value },
         outcome,
         records: made,
         taken: made,
     }
 }
 
-// 17 in a close hands back the pool that came.
+// Open gives a closed pool if it ends in 17 or has no root.
+pub fn leave_opened(mut left: tables::Pool, ended: Result<Outcome, Outcome>, made: usize) -> Called
+    requires { KeptPool left }
+    ensures { result ≡ leaving_opened left (outcome_of (ending ended)) made }
+{
+    let outcome = outcome_of(ended);
+    let value = tables::Pool::closed();
+    let Some(state) = opened_after(outcome) else {
+        return leave_short(Pool { value }, outcome, made);
+    };
+    if 0 < left.roots.count {
+        left.state = state;
+    } else {
+        left = value;
+    }
+    Called {
+        pool: Pool { value: left },
+        outcome,
+        records: made,
+        taken: made,
+    }
+}
+
+// 17: this pool is handed back. Its last record has no answer.
 pub fn leave_short(pool: Pool, outcome: Outcome, made: usize) -> Called
     ensures { result ≡ leaving_short pool outcome made }
 {
-    let taken = all_but_one(made);
     Called {
         pool,
         outcome,
         records: made,
-        taken,
+        taken: made.saturating_sub(1),
     }
 }
 
@@ -151,11 +113,11 @@ pub fn leave_short(pool: Pool, outcome: Outcome, made: usize) -> Called
 pub fn leave_closed(failed: usize, made: usize) -> Called
     ensures { result ≡ leaving_closed failed made }
 {
-    let value = tables::Pool::closed();
-    let failures = failed as u64;
     Called {
-        pool: Pool { value },
-        outcome: Outcome::Closed(failures),
+        pool: Pool {
+            value: tables::Pool::closed(),
+        },
+        outcome: Outcome::Closed(failed as u64),
         records: made,
         taken: made,
     }

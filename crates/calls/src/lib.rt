@@ -1,25 +1,21 @@
 // The pool: open, malloc, free, close. Each takes the pool by value and returns it with the outcome, the record count and the answers taken, for every pool
-// value, every argument, every list of answers and every log. A pool as a call of ours leaves it is read as it is, and whole only by functions that the
-// compiler does not inline: each that it does costs a copy.
+// value, every argument, every list of answers and every log. A call tests its own copy of the pool and changes that; a refusal hands back the one that came.
 #![tactic(auto)]
 
 mod leaving;
 mod refusing;
-mod unready;
 
 ghost use Rattle.std.specs.Prelude.{◌≡◌, [], ◌∷◌};
 ghost use Rattle.tables.specs.Bounds.{PAGES, SPANS, ZOMBIES, HOLES, ROOTS, VA, END, IDS, LOG};
 ghost use Rattle.calls.specs.Promises.{Opens, Mallocs, Frees, Closes};
 
-use driving::Ended;
-use plain_tables::buffers::find_buffer;
-use pool_entry::{is_open, stands};
-use pool_soundness::is_sound;
+use driving::Driver;
+use pool_entry::{enter, enter_close};
 use step_close::close_steps;
 use step_free::free_steps;
 use step_malloc::malloc_steps;
 use step_open::open_steps;
-use tables::{Choice, Outcome};
+use tables::Outcome;
 use words::Address;
 
 #[repr(C)]
@@ -90,20 +86,17 @@ impl Pool {
         ensures { Opens granularity override_size va_size initial_pages initial_stream
             answers.now log.old result log.new }
     {
-        let refused = refusing::open_refused(
-            granularity,
-            override_size,
-            va_size,
-            initial_pages,
-            log.len() / 4,
-        );
-        let Ended::On = refused else {
+        let room = log.len() / 4;
+        if let Err(outcome) =
+            refusing::open_refused(granularity, override_size, va_size, initial_pages, room)
+        {
             let value = tables::Pool::closed();
-            return leaving::refuse(Pool { value }, refused);
-        };
+            return leaving::refuse(Pool { value }, outcome);
+        }
         let page = refusing::page_size(granularity, override_size);
-        let stepped = open_steps(page, va_size, initial_pages, initial_stream, answers, log);
-        leaving::leave_opened(stepped)
+        let mut driver = Driver::new(answers, log);
+        let (pool, ended) = open_steps(page, va_size, initial_pages, initial_stream, &mut driver);
+        leaving::leave_opened(pool, ended, driver.made)
     }
 
     // Cleanup, fit, room where nothing fits, and the first bytes of the region handed over.
@@ -111,77 +104,48 @@ impl Pool {
         ensures { Mallocs self bytes stream
             answers.now log.old result log.new }
     {
-        if is_open(self.value.state, self.value.counter, log.len() / 4) {
-            if stands(self.value) {
-                if is_sound(self.value) {
-                    let spans = self.value.free.count + self.value.live.count;
-                    let sized = refusing::size_refused(self.value.page, spans, bytes);
-                    let Ended::On = sized else {
-                        return leaving::refuse(self, sized);
-                    };
-                    let stepped = malloc_steps(self.value, bytes, stream, answers, log);
-                    return leaving::leave(self, stepped);
-                }
-            }
+        let mut pool = self.value;
+        if let Err(outcome) = enter(&mut pool, log.len() / 4) {
+            return leaving::refuse(self, outcome);
         }
-        unready::malloc(self, bytes, stream, answers, log)
+        let spans = self.value.free.count + self.value.live.count;
+        if let Err(outcome) = refusing::size_refused(self.value.page, spans, bytes) {
+            return leaving::refuse(self, outcome);
+        }
+        let mut driver = Driver::new(answers, log);
+        let ended = malloc_steps(&mut pool, bytes, stream, &mut driver);
+        leaving::leave(self, pool, ended, driver.made)
     }
 
-    // The buffer's range is inserted as free, on its stream. The call changes its own copy of the pool, table by table; it names no other, or there are two.
+    // The buffer's range is inserted as free, on its stream.
     pub fn free(self, address: Address, answers: &[u64], log: &mut [u64]) -> Called
         ensures { Frees self address answers.now log.old result log.new }
     {
-        let mut q = self.value;
-        if is_open(q.state, q.counter, log.len() / 4) {
-            if stands(q) {
-                if is_sound(q) {
-                    let choice = find_buffer(q.live, address);
-                    let Choice::At(at) = choice else {
-                        return leaving::refuse(
-                            Pool { value: q },
-                            Ended::Ends(Outcome::InvalidPointer(address)),
-                        );
-                    };
-                    let freed = free_steps(q.live, q.free, q.counter, at, answers, log, 0);
-                    let outcome = freed.outcome;
-                    let state = leaving::state_after(outcome);
-                    if state == 0 {
-                        return leaving::leave_short(Pool { value: q }, outcome, freed.made);
-                    }
-                    let live = freed.live;
-                    let free = freed.free;
-                    q.live = live;
-                    q.free = free;
-                    q.counter = freed.counter;
-                    q.state = state;
-                    return Called {
-                        pool: Pool { value: q },
-                        outcome,
-                        records: freed.made,
-                        taken: freed.made,
-                    };
-                }
-            }
+        let mut pool = self.value;
+        if let Err(outcome) = enter(&mut pool, log.len() / 4) {
+            return leaving::refuse(self, outcome);
         }
-        unready::free(Pool { value: q }, address, answers, log)
+        let Some(at) = pool.live.find(address.0) else {
+            return leaving::refuse(self, Outcome::InvalidPointer(address));
+        };
+        let mut driver = Driver::new(answers, log);
+        let ended = free_steps(&mut pool, at, &mut driver);
+        leaving::leave(self, pool, ended, driver.made)
     }
 
     // Sync, zombies, pages, roots: all that the pool holds goes back to the driver, and no failure ends it.
     pub fn close(self, answers: &[u64], log: &mut [u64]) -> Called
         ensures { Closes self answers.now log.old result log.new }
     {
-        if is_open(self.value.state, self.value.counter, log.len() / 4) {
-            if stands(self.value) {
-                if is_sound(self.value) {
-                    let closing = close_steps(self.value, answers, log);
-                    let ended = closing.ended;
-                    let Ended::On = ended else {
-                        return leaving::leave_short(self, Outcome::AnswersRanOut, closing.made);
-                    };
-                    return leaving::leave_closed(closing.failed, closing.made);
-                }
-            }
+        let mut pool = self.value;
+        if let Err(outcome) = enter_close(&mut pool, log.len() / 4) {
+            return leaving::refuse(self, outcome);
         }
-        unready::close(self, answers, log)
+        let mut driver = Driver::new(answers, log);
+        let mut failed = 0;
+        match close_steps(&pool, &mut driver, &mut failed) {
+            Ok(()) => leaving::leave_closed(failed, driver.made),
+            Err(outcome) => leaving::leave_short(self, outcome, driver.made),
+        }
     }
 }

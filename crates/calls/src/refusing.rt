@@ -4,26 +4,22 @@ ghost use Rattle.tables.specs.Open.{page_size, bad_configuration};
 ghost use Rattle.calls.specs.Refusing.{size_refused, open_refused};
 
 use super::Pool;
-use driving::Ended;
 use pool_entry::log_is_short;
 use pool_soundness::is_allowed;
 use tables::Outcome;
 
 // 6 for a size that is not whole, 7 where no span is to spare.
-pub fn size_refused(page: u64, spans: usize, bytes: u64) -> Ended
+pub fn size_refused(page: u64, spans: usize, bytes: u64) -> Result<(), Outcome>
     requires { 0 < page }
     ensures { result ≡ size_refused page spans bytes }
 {
-    if bytes == 0 {
-        return Ended::Ends(Outcome::BadSize(bytes));
-    }
-    if bytes % page != 0 {
-        return Ended::Ends(Outcome::BadSize(bytes));
+    if bytes == 0 || bytes % page != 0 {
+        return Err(Outcome::BadSize(bytes));
     }
     if spans >= Pool::SPANS {
-        return Ended::Ends(Outcome::SpansFull);
+        return Err(Outcome::SpansFull);
     }
-    Ended::On
+    Ok(())
 }
 
 // Override 0 stands for the granularity.
@@ -63,14 +59,14 @@ pub fn open_refused(
     va: u64,
     initial: u64,
     room: usize,
-) -> Ended
+) -> Result<(), Outcome>
     ensures { result ≡ open_refused granularity override_size va initial room }
 {
     if log_is_short(room) {
-        return Ended::Ends(Outcome::ShortLog);
+        return Err(Outcome::ShortLog);
     }
     if is_bad(granularity, override_size, va, initial) {
-        return Ended::Ends(Outcome::BadConfiguration);
+        return Err(Outcome::BadConfiguration);
     }
-    Ended::On
+    Ok(())
 }

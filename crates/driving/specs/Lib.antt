@@ -1,4 +1,4 @@
 pub mod Ran
 pub mod Endings
-pub mod Pools
 pub mod Promises
+pub mod Pools

@@ -1,227 +1,145 @@
-// Driver calls: each takes the next lent answer and leaves its record in the log, after `made` others. `answers` and `log` are those of the whole call.
+// Driver calls: each takes the next lent answer and leaves its record in the log. Where no answer is left, the call ends with 17.
 #![tactic(auto)]
 
-ghost use Rattle.std.specs.Prelude.{cond, ◌≡◌, ◌+◌};
-ghost use Rattle.words.specs.Answers.{complete};
+ghost use Rattle.std.specs.Prelude.{◌≡◌, ◌+◌, ◌∷◌, []};
+ghost use Rattle.words.specs.Answers.{lent, complete};
+ghost use Rattle.words.specs.Log.{written};
 ghost use Rattle.tables.specs.Driver.{heard, must, try, is_complete, reserve as reserve_step, create as create_step, ask as ask_step};
-ghost use Rattle.driving.specs.Ran.{Drove, RoomFor};
+ghost use Rattle.driving.specs.Ran.{Drove, RoomFor, Lent};
 ghost use Rattle.driving.specs.Promises.{telling, hearing};
-ghost use Rattle.driving.specs.Endings.{ending, asked_ending, ended_at, stepped_at};
+ghost use Rattle.driving.specs.Endings.{ending};
 
-use tables::{FreeRegion, Outcome, Pool};
+use tables::Outcome;
 use words::{Answer, EventId, Record, Word, answer_after};
 
-// How a part of a call ended.
-#[derive(Clone, Copy)]
-pub enum Ended {
-    On,
-    Ends(Outcome),
-}
-
-// What the steps of a call leave.
-#[derive(Clone, Copy)]
-pub struct Stepped {
-    pub pool: Pool,
-    pub outcome: Outcome,
+// The answers lent to a call and its log, behind the `made` driver calls that the call made so far.
+pub struct Driver<'a> {
+    pub answers: &'a [u64],
+    pub log: &'a mut [u64],
     pub made: usize,
 }
 
-// The steps end before their last.
-pub fn stepped_at(pool: Pool, ended: Ended, made: usize) -> Stepped
-    ensures { result ≡ stepped_at pool ended made }
-{
-    match ended {
-        Ended::Ends(outcome) => Stepped {
-            pool,
-            outcome,
-            made,
-        },
-        Ended::On => Stepped {
-            pool,
-            outcome: Outcome::AnswersRanOut,
-            made,
-        },
+impl<'a> Driver<'a> {
+    // Before the first driver call.
+    pub fn new(answers: &'a [u64], log: &'a mut [u64]) -> Driver<'a>
+        ensures lent { (result.answers ≡ answers.entry) × (result.log.ghost_name ≡ log.entry.ghost_name) }
+        ensures start { (result.log.now ≡ log.old) × (result.made ≡ 0) }
+    {
+        Driver {
+            answers,
+            log,
+            made: 0,
+        }
     }
-}
 
-// `region` is where the buffer comes from, where the call goes on.
-#[derive(Clone, Copy)]
-pub struct Roomed {
-    pub pool: Pool,
-    pub region: FreeRegion,
-    pub ended: Ended,
-    pub made: usize,
-}
-
-// The call ends before there is a region.
-pub fn ended_at(pool: Pool, ended: Ended, made: usize) -> Roomed
-    ensures { result ≡ ended_at pool ended made }
-{
-    Roomed {
-        pool,
-        region: FreeRegion::EMPTY,
-        ended,
-        made,
+    fn next_answer(&self) -> Answer
+        ensures { result ≡ lent self.now.answers.now self.now.made }
+    {
+        answer_after(self.answers, self.made)
     }
-}
 
-#[derive(Clone, Copy)]
-pub enum Asked {
-    Complete(bool),
-    Unasked,
-}
-
-// A driver call whose record is known but for its code.
-pub fn tell(
-    answers: &[u64],
-    log: &mut [u64],
-    made: usize,
-    word: Word,
-    first: u64,
-    second: u64,
-) -> Answer
-    requires { RoomFor (made + 1) log.old }
-    ensures { Drove (telling word first second)
-        answers.now made log.old (heard result) log.new }
-{
-    let answer = answer_after(answers, made);
-    let kind = word.number();
-    let code = answer.code();
-    let record = Record {
-        kind,
-        first,
-        second,
-        code,
-    };
-    record.write(log, made);
-    answer
-}
-
-// A driver call whose first field is the answer's value.
-fn hear(answers: &[u64], log: &mut [u64], made: usize, word: Word, second: u64) -> Answer
-    requires { RoomFor (made + 1) log.old }
-    ensures { Drove (hearing word second)
-        answers.now made log.old (heard result) log.new }
-{
-    let answer = answer_after(answers, made);
-    let kind = word.number();
-    let first = answer.value();
-    let code = answer.code();
-    let record = Record {
-        kind,
-        first,
-        second,
-        code,
-    };
-    record.write(log, made);
-    answer
-}
-
-// A base for a new root.
-pub fn reserve(answers: &[u64], log: &mut [u64], made: usize, va: u64) -> Answer
-    requires { RoomFor (made + 1) log.old }
-    ensures { Drove (reserve_step va)
-        answers.now made log.old (heard result) log.new }
-{
-    hear(answers, log, made, Word::Reserve, va)
-}
-
-// A new page handle.
-pub fn create(answers: &[u64], log: &mut [u64], made: usize, page: u64) -> Answer
-    requires { RoomFor (made + 1) log.old }
-    ensures { Drove (create_step page)
-        answers.now made log.old (heard result) log.new }
-{
-    hear(answers, log, made, Word::Create, page)
-}
-
-// 1 for complete, else 0.
-fn completion(answer: Answer) -> u64
-    ensures { result ≡ cond (complete answer) 1 0 }
-{
-    if answer.value() == 1 {
-        return 1;
+    // The driver call that this answers is made, and leaves this line.
+    fn leave(&mut self, answer: Answer, line: Record) -> Result<Answer, Outcome>
+        requires { RoomFor 1 self.old }
+        ensures lent { Lent self.old self.new }
+        ensures log { self.new.log.now ≡ written self.old.log.now self.old.made (line ∷ []) }
+        ensures made { self.new.made ≡ self.old.made + 1 }
+        ensures heard { ending result ≡ heard answer }
+    {
+        line.write(self.log, self.made);
+        self.made += 1;
+        match answer {
+            Answer::Missing => Err(Outcome::AnswersRanOut),
+            _ => Ok(answer),
+        }
     }
-    0
-}
 
-fn ask(answers: &[u64], log: &mut [u64], made: usize, id: EventId) -> Answer
-    requires { RoomFor (made + 1) log.old }
-    ensures { Drove (ask_step id.0)
-        answers.now made log.old (heard result) log.new }
-{
-    let answer = answer_after(answers, made);
-    let kind = Word::Asked.number();
-    let second = completion(answer);
-    let code = answer.code();
-    let record = Record {
-        kind,
-        first: id.0,
-        second,
-        code,
-    };
-    record.write(log, made);
-    answer
-}
-
-// Whether an event is complete. It never stops a call, unless no answer is left.
-pub fn is_complete(answers: &[u64], log: &mut [u64], made: usize, id: EventId) -> Asked
-    requires { RoomFor (made + 1) log.old }
-    ensures { Drove (is_complete id.0)
-        answers.now made log.old (asked_ending result) log.new }
-{
-    let answer = ask(answers, log, made, id);
-    let Answer::Done(value) = answer else {
-        let Answer::Failed(_) = answer else {
-            return Asked::Unasked;
+    // A driver call whose record is known but for its code.
+    pub fn tell(&mut self, word: Word, first: u64, second: u64) -> Result<Answer, Outcome>
+        requires { RoomFor 1 self.old }
+        ensures { Drove (telling word first second) self.old (ending result) self.new }
+    {
+        let answer = self.next_answer();
+        let line = Record {
+            kind: word.number(),
+            first,
+            second,
+            code: answer.code(),
         };
-        return Asked::Complete(false);
-    };
-    Asked::Complete(value == 1)
-}
+        self.leave(answer, line)
+    }
 
-// A failure ends the call with 14.
-pub fn must_tell(
-    answers: &[u64],
-    log: &mut [u64],
-    made: usize,
-    word: Word,
-    first: u64,
-    second: u64,
-) -> Ended
-    requires { RoomFor (made + 1) log.old }
-    ensures { Drove (must (telling word first second))
-        answers.now made log.old (ending result) log.new }
-{
-    let answer = tell(answers, log, made, word, first, second);
-    let Answer::Done(_) = answer else {
-        let Answer::Failed(code) = answer else {
-            return Ended::Ends(Outcome::AnswersRanOut);
+    // A driver call whose first field is the answer's value.
+    fn hear(&mut self, word: Word, second: u64) -> Result<Answer, Outcome>
+        requires { RoomFor 1 self.old }
+        ensures { Drove (hearing word second) self.old (ending result) self.new }
+    {
+        let answer = self.next_answer();
+        let line = Record {
+            kind: word.number(),
+            first: answer.value(),
+            second,
+            code: answer.code(),
         };
-        return Ended::Ends(Outcome::DriverFailed(code));
-    };
-    Ended::On
-}
+        self.leave(answer, line)
+    }
 
-// A failure is ignored.
-pub fn try_tell(
-    answers: &[u64],
-    log: &mut [u64],
-    made: usize,
-    word: Word,
-    first: u64,
-    second: u64,
-) -> Ended
-    requires { RoomFor (made + 1) log.old }
-    ensures { Drove (try (telling word first second))
-        answers.now made log.old (ending result) log.new }
-{
-    let answer = tell(answers, log, made, word, first, second);
-    let Answer::Done(_) = answer else {
-        let Answer::Failed(_) = answer else {
-            return Ended::Ends(Outcome::AnswersRanOut);
+    // A base for a new root.
+    pub fn reserve(&mut self, va: u64) -> Result<Answer, Outcome>
+        requires { RoomFor 1 self.old }
+        ensures { Drove (reserve_step va) self.old (ending result) self.new }
+    {
+        self.hear(Word::Reserve, va)
+    }
+
+    // A new page handle.
+    pub fn create(&mut self, page: u64) -> Result<Answer, Outcome>
+        requires { RoomFor 1 self.old }
+        ensures { Drove (create_step page) self.old (ending result) self.new }
+    {
+        self.hear(Word::Create, page)
+    }
+
+    fn ask(&mut self, id: EventId) -> Result<Answer, Outcome>
+        requires { RoomFor 1 self.old }
+        ensures { Drove (ask_step id.0) self.old (ending result) self.new }
+    {
+        let answer = self.next_answer();
+        let line = Record {
+            kind: Word::Asked.number(),
+            first: id.0,
+            second: u64::from(answer.value() == 1),
+            code: answer.code(),
         };
-        return Ended::On;
-    };
-    Ended::On
+        self.leave(answer, line)
+    }
+
+    // Whether an event is complete. It never ends a call, unless no answer is left.
+    pub fn is_complete(&mut self, id: EventId) -> Result<bool, Outcome>
+        requires { RoomFor 1 self.old }
+        ensures { Drove (is_complete id.0) self.old (ending result) self.new }
+    {
+        let answer = self.ask(id)?;
+        Ok(answer.value() == 1)
+    }
+
+    // A failure ends the call with 14.
+    pub fn must_tell(&mut self, word: Word, first: u64, second: u64) -> Result<(), Outcome>
+        requires { RoomFor 1 self.old }
+        ensures { Drove (must (telling word first second)) self.old (ending result) self.new }
+    {
+        match self.tell(word, first, second)? {
+            Answer::Failed(code) => Err(Outcome::DriverFailed(code)),
+            _ => Ok(()),
+        }
+    }
+
+    // A failure is ignored.
+    pub fn try_tell(&mut self, word: Word, first: u64, second: u64) -> Result<(), Outcome>
+        requires { RoomFor 1 self.old }
+        ensures { Drove (try (telling word first second)) self.old (ending result) self.new }
+    {
+        self.tell(word, first, second)?;
+        Ok(())
+    }
 }

@@ -15,6 +15,7 @@ use Rattle.lists.proofs.Tests.{both, cases_lt, cases_eq, all_implies, all_both}
 use Rattle.lists.proofs.Maps.{all-unmap, sum-map}
 use Rattle.lists.proofs.Pairs.{pairs_implies, pairs-both, pairs-all, pairs-unmap, ascends-pairs, pairs-rises}
 use Rattle.lists.proofs.Order.{length-sorted, sorted-ascends}
+use Rattle.cells.specs.Table.{entries}
 use Rattle.tables.specs.Bounds.{END, HOLES, PAGES, ROOTS, SPANS, ZOMBIES}
 use Rattle.tables.specs.Values.{Tables, tables_of, in_order, at_entry, opened, stopped, free_of, live_of, holes_of, zombies_of, pages_of, roots_of}
 use Rattle.tables.specs.InsertHole.{from, upto, Apart}
@@ -172,7 +173,7 @@ length-in_order : {A : Type 0} (key : A → ℕ) (n : ℕ) (l : List A) → leng
 length-in_order key n l = omega (arith, length-sorted key (take n l), length-first n l)
 
 pub ceilings-read : (p : Pool) → ceilings_kept p ≡ true → Ceilings (at_entry p)
-unfolding ceilings_kept tables_of in_order free_of live_of holes_of zombies_of pages_of roots_of
+unfolding ceilings_kept tables_of in_order entries
 ceilings-read p e =
     let a = both (leb p.pages.count PAGES) _ e in
     let b = both (leb (p.free.count + p.live.count) SPANS) _ a.1 in
@@ -221,6 +222,6 @@ unfolding tables_of in_order
 entry-page p = refl
 
 pub entry-spans : (p : Pool) → length (at_entry p).free + length (at_entry p).live ≤ p.free.count + p.live.count
-unfolding tables_of in_order free_of live_of
+unfolding tables_of in_order entries
 entry-spans p =
     omega (arith, length-in_order (λ r. r.start.0) p.free.count p.free.cells, length-in_order (λ b. b.start.0) p.live.count p.live.cells)

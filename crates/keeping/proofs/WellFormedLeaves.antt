@@ -16,6 +16,7 @@ use Rattle.lists.proofs.Every.{and-true}
 use Rattle.lists.proofs.Pairs.{rises_above, pairs_implies, pairs-map, rises-pairs}
 use Rattle.lists.proofs.Order.{sorted-ascends, sorted-same, rises-ascends}
 use Rattle.lists.proofs.Maps.{sum-map}
+use Rattle.cells.specs.Table.{pack}
 use Rattle.tables.specs.Bounds.{END, HOLES, PAGES, ROOTS, SPANS, ZOMBIES}
 use Rattle.tables.specs.Values.{Tables, in_order, at_entry, pool_of, opened, pack_free, pack_live, pack_holes, pack_zombies, pack_pages, pack_roots}
 use Rattle.tables.specs.InsertHole.{from, upto, Apart}
@@ -116,7 +117,7 @@ module _ (lost : ℕ → ℕ) (t : Tables) (s : Sound lost none none t) where
       rises_sorted key l r = sorted-same key 0 l (rises-ascends key 0 l r)
 
 pub ceilings-pass : (state : ℕ) (t : Tables) → Ceilings t → ceilings_kept (pool_of state t) ≡ true
-unfolding ceilings_kept pool_of pack_free pack_live pack_holes pack_zombies pack_pages pack_roots
+unfolding ceilings_kept pool_of pack
 ceilings-pass state t c =
     and-true (leb (length t.pages) PAGES) _ (le-leb (length t.pages) PAGES c.pages)
     (and-true (leb (length t.free + length t.live) SPANS) _ (le-leb (length t.free + length t.live) SPANS c.spans)

@@ -13,7 +13,8 @@ use lib.ListN.{length, get_or, take, drop, length-drop}
 use lib.Seq.{get_or-drop, drop-drop}
 use Rattle.lists.specs.Tests.{filter}
 use Rattle.lists.specs.Order.{smaller, least}
-use Rattle.lists.specs.Scan.{nothing, better, scan, found}
+use Rattle.std.specs.Prelude.{Option as Found, Some, None}
+use Rattle.lists.specs.Scan.{better, scan, found}
 use Rattle.lists.specs.declared.Best.{Best}
 use Rattle.lists.proofs.Tests.{cases_lt}
 use Rattle.lists.proofs.Cells.{turn, ends}
@@ -59,48 +60,43 @@ module _ {A : Type 0} (key : A → ℕ) where
   least-append (x ∷ l) m = ap (lesser (some x)) (least-append l m) ∙ sym (lesser_assoc (some x) (least key l) (least key m))
 
   -- What a best says of the list `l` after its first `i` places: its place is one of them, and its key is that element's.
-  pub record Marks (z : A) (l : List A) (i : ℕ) (b : Best) : Type 0 where
-    pub below : b.found ≡ true → b.at < i
-    pub keeps : b.found ≡ true → b.least ≡ key (get_or l b.at z)
+  abbrev pub Marks : A → List A → ℕ → Found Best → Type 0
+  Marks z l i None = Unit {0}
+  Marks z l i (Some b) = (b.at < i) × (b.least ≡ key (get_or l b.at z))
 
   module _ (z : A) (l : List A) where
-    pub marks-nothing : Marks z l 0 nothing
-    marks-nothing = record { below = λ e. absurd (false≢true e); keeps = λ e. absurd (false≢true e) }
-
     -- An element is passed over, or looked at.
-    pub marks-on : (i : ℕ) (b : Best) → Marks z l i b → Marks z l (i + 1) b
-    marks-on i b m = record { below = λ e. omega (arith, m.below e); keeps = m.keeps }
+    pub marks-on : (i : ℕ) (b : Found Best) → Marks z l i b → Marks z l (i + 1) b
+    marks-on i None m = tt
+    marks-on i (Some b) m = (omega (arith, m.0), m.1)
 
-    pub marks-better : (i : ℕ) (b : Best) → Marks z l i b → Marks z l (i + 1) (better i (key (get_or l i z)) b)
-    marks-better i b m = go (not b.found || ltb (key (get_or l i z)) b.least)
+    pub marks-better : (i : ℕ) (b : Found Best) → Marks z l i b → Marks z l (i + 1) (better i (key (get_or l i z)) b)
+    marks-better i None m = (omega arith, refl)
+    marks-better i (Some b) m = go (ltb (key (get_or l i z)) b.least)
       where
-        go : (t : Bool) → Marks z l (i + 1) (cond t (record { found = true; at = i; least = key (get_or l i z) }) b)
-        go true = record { below = λ e. omega arith; keeps = λ e. refl }
-        go false = marks-on i b m
+        go : (t : Bool) → Marks z l (i + 1) (cond t (Some (record { at = i; least = key (get_or l i z) })) (Some b))
+        go true = (omega arith, refl)
+        go false = (omega (arith, m.0), m.1)
 
-    pub found-better : (i : ℕ) (b : Best) → Marks z l i b → found z l (better i (key (get_or l i z)) b) ≡ lesser (found z l b) (some (get_or l i z))
-    found-better i b m = go b.found m.keeps
-      where
-        go : (t : Bool) → (t ≡ true → b.least ≡ key (get_or l b.at z)) →
-            found z l (better i (key (get_or l i z)) (record { found = t; at = b.at; least = b.least })) ≡
-            lesser (cond t (some (get_or l b.at z)) none) (some (get_or l i z))
-        go false k = refl
-        go true k =
-            let x = get_or l i z in
-            let y = get_or l b.at z in
-            ⊎_elim
-            (λ h. rw (lt-ltb (key x) b.least h, lt-leb (key y) (key x) (omega (arith, k refl))))
-            (λ h. rw (le-ltb (key x) b.least h, le-leb (key y) (key x) (omega (arith, k refl))))
-            (cases_lt (key x) b.least)
+    pub found-better : (i : ℕ) (b : Found Best) → Marks z l i b →
+        found z l (better i (key (get_or l i z)) b) ≡ lesser (found z l b) (some (get_or l i z))
+    found-better i None m = refl
+    found-better i (Some b) m =
+        let x = get_or l i z in
+        let y = get_or l b.at z in
+        ⊎_elim
+        (λ h. rw (lt-ltb (key x) b.least h, lt-leb (key y) (key x) (omega (arith, m.1, h))) refl)
+        (λ h. rw (le-ltb (key x) b.least h, le-leb (key y) (key x) (omega (arith, m.1, h))) refl)
+        (cases_lt (key x) b.least)
 
     -- The least of the best so far and of what is left stays the same where an element is looked at.
-    pub better-turn : (i : ℕ) (b : Best) (m : List A) → Marks z l i b →
+    pub better-turn : (i : ℕ) (b : Found Best) (m : List A) → Marks z l i b →
         lesser (found z l b) (least key (get_or l i z ∷ m)) ≡ lesser (found z l (better i (key (get_or l i z)) b)) (least key m)
     better-turn i b m k =
         sym (lesser_assoc (found z l b) (some (get_or l i z)) (least key m)) ∙ ap (λ o. lesser o (least key m)) (sym (found-better i b k))
 
     -- the best `e` is the lesser of the best `b` and the least of `m`
-    abbrev Ends : Best → List A → Best → Type 0
+    abbrev Ends : Found Best → List A → Found Best → Type 0
     Ends b m e = (found z l e ≡ lesser (found z l b) (least key m)) × Marks z l (length l) e
 
     left : (i : ℕ) (x : A) (m : List A) → drop i l ≡ x ∷ m → (get_or l i z ≡ x) × ((drop (i + 1) l ≡ m) × (i < length l))
@@ -111,14 +107,14 @@ module _ {A : Type 0} (key : A → ℕ) where
         )
 
     -- the scan of what is left, from a best that marks what was passed
-    scanned : (p : A → Bool) (i : ℕ) (b : Best) (m : List A) → drop i l ≡ m → i ≤ length l → Marks z l i b → Ends b (filter p m) (scan key p i b m)
+    scanned : (p : A → Bool) (i : ℕ) (b : Found Best) (m : List A) → drop i l ≡ m → i ≤ length l → Marks z l i b → Ends b (filter p m) (scan key p i b m)
     scanned p i b [] e h k =
         let n : i ≡ length l = omega (arith, simp length-drop at (ap length e)) in
         (sym (lesser-none (found z l b)), rw n at k)
     scanned p i b (x ∷ m) e h k = go (p x) (left i x m e) (λ d. scanned p (i + 1) d m)
       where
         go : (t : Bool) → (get_or l i z ≡ x) × ((drop (i + 1) l ≡ m) × (i < length l)) →
-            ((d : Best) → drop (i + 1) l ≡ m → i + 1 ≤ length l → Marks z l (i + 1) d → Ends d (filter p m) (scan key p (i + 1) d m)) →
+            ((d : Found Best) → drop (i + 1) l ≡ m → i + 1 ≤ length l → Marks z l (i + 1) d → Ends d (filter p m) (scan key p (i + 1) d m)) →
             Ends b (cond t (x ∷ filter p m) (filter p m)) (scan key p (i + 1) (cond t (better i (key x) b) b) m)
         go false (here, (rest, low)) f = f b rest (omega arith) (marks-on i b k)
         go true (here, (rest, low)) f =
@@ -126,21 +122,25 @@ module _ {A : Type 0} (key : A → ℕ) where
             (r.0 ∙ sym (rw here at (better-turn i b (filter p m) k)), r.1)
 
   -- What a scan finds is the least of those that pass, and it is at one of the list's places.
-  pub scan-least : (p : A → Bool) (z : A) (l : List A) → found z l (scan key p 0 nothing l) ≡ least key (filter p l)
-  scan-least p z l = (scanned z l p 0 nothing l refl (omega arith) (marks-nothing z l)).0
+  pub scan-least : (p : A → Bool) (z : A) (l : List A) → found z l (scan key p 0 None l) ≡ least key (filter p l)
+  scan-least p z l = (scanned z l p 0 None l refl (omega arith) tt).0
 
-  pub scan-placed : (p : A → Bool) (l : List A) → (scan key p 0 nothing l).found ≡ true → (scan key p 0 nothing l).at < length l
-  scan-placed p [] e = absurd (false≢true e)
-  scan-placed p (x ∷ l) e = (scanned x (x ∷ l) p 0 nothing (x ∷ l) refl (omega arith) (marks-nothing x (x ∷ l))).1.below e
+  pub scan-placed : (p : A → Bool) (l : List A) (b : Best) → scan key p 0 None l ≡ Some b → b.at < length l
+  scan-placed p [] b e = absurd (none-some e)
+    where
+      none-some : None ≡ Some b → ⊥
+      none-some q = let z : ◌≡◌ {A = ℕ} 0 1 = cc in omega arith
+  scan-placed p (x ∷ l) b e =
+      (rw e at (scanned x (x ∷ l) p 0 None (x ∷ l) refl (omega arith) tt).1).0
 
   -- A scan of the first `n` cells as a loop: where it stands before place `i`, at a turn, and at the end.
   module _ (p : A → Bool) (n : ℕ) (cells : List A) where
-    abbrev pub Scanned : ℕ → Best → Type 0
-    Scanned i b = scan key p 0 nothing (take n cells) ≡ scan key p i b (drop i (take n cells))
+    abbrev pub Scanned : ℕ → Found Best → Type 0
+    Scanned i b = scan key p 0 None (take n cells) ≡ scan key p i b (drop i (take n cells))
 
-    pub scan-turn : (i : ℕ) (b : Best) (z : A) → i < n → n ≤ length cells → Scanned i b →
+    pub scan-turn : (i : ℕ) (b : Found Best) (z : A) → i < n → n ≤ length cells → Scanned i b →
         Scanned (i + 1) (cond (p (get_or cells i z)) (better i (key (get_or cells i z)) b) b)
     scan-turn i b z h k s = s ∙ rw (turn n cells i z h k)
 
-    pub scan-whole : (i : ℕ) (b : Best) → n ≤ i → Scanned i b → b ≡ scan key p 0 nothing (take n cells)
+    pub scan-whole : (i : ℕ) (b : Found Best) → n ≤ i → Scanned i b → b ≡ scan key p 0 None (take n cells)
     scan-whole i b h s = sym (s ∙ rw (ends n cells i h))

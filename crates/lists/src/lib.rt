@@ -4,27 +4,19 @@
 ghost use Rattle.std.specs.Prelude.{◌≡◌};
 ghost use Rattle.lists.specs.Scan.{better};
 
-// The best element so far in a scan for the least key: whether there is one, its place and its key.
+// The element of the least key so far in a scan: its place and its key.
 #[derive(Clone, Copy)]
 pub struct Best {
-    pub found: bool,
     pub at: usize,
     pub least: u64,
 }
 
-pub fn better_of(best: Best, at: usize, key: u64) -> Best
+// The element at a place is looked at: it is the best where there is none yet, or its key is below the best one's.
+pub fn better_of(best: Option<Best>, at: usize, key: u64) -> Option<Best>
     ensures { result ≡ better at key best }
 {
-    let next = Best {
-        found: true,
-        at,
-        least: key,
-    };
-    if best.found {
-        if key < best.least {
-            return next;
-        }
-        return best;
+    match best {
+        Some(b) if b.least <= key => best,
+        _ => Some(Best { at, least: key }),
     }
-    next
 }

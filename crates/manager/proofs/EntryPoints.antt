@@ -8,9 +8,9 @@ use lib.Dec.{eqb}
 use lib.ListN.{length, take, get_or}
 use Rattle.lists.specs.Tests.{first}
 use Rattle.tables.specs.HandsBack as Pool
-use Rattle.tables.specs.Choices.{chosen, Placed}
-use Rattle.tables.specs.declared.Choice.{Choice}
-use Rattle.tables.specs.declared.Choice.TheVariants.{At, Nothing}
+use Rattle.cells.specs.Table.{chosen, Placed}
+use Rattle.cells.specs.Table.{Choice}
+use Rattle.std.specs.Prelude.{Some, None}
 use Rattle.calls.specs.Promises as Calls
 use Rattle.calls.specs.declared.Called.{Called}
 use Rattle.manager_rules.specs.Values.{empty_small, small_of, no_small, small, over}
@@ -58,16 +58,16 @@ take-few (suc n) [] = omega arith
 take-few (suc n) (x ∷ l) = let h = take-few n l in omega (arith, h)
 
 -- the place that was found, and what stands there
-pub placed_at : (t : SmallBuffers) (r : Choice) (i : ℕ) → r ≡ At i → Placed (small_of t) r → i < t.count
+pub placed_at : (t : SmallBuffers) (r : Choice) (i : ℕ) → r ≡ Some i → Placed (small_of t) r → i < t.count
 unfolding Placed small_of
 placed_at t r i e h =
     let q : i < length (take t.count t.cells) = subst (λ r. Placed (take t.count t.cells) r) e h in
     omega (arith, q, take-few t.count t.cells)
 
-pub found_at : (l : List SmallBuffer) (r : Choice) (i : ℕ) (o : Option SmallBuffer) → r ≡ At i → chosen empty_small l r ≡ o → some (get_or l i empty_small) ≡ o
+pub found_at : (l : List SmallBuffer) (r : Choice) (i : ℕ) (o : Option SmallBuffer) → r ≡ Some i → chosen empty_small l r ≡ o → some (get_or l i empty_small) ≡ o
 unfolding chosen
 found_at l r i o e h = sym (ap (chosen empty_small l) e) ∙ h
 
-pub found_none : (l : List SmallBuffer) (r : Choice) (o : Option SmallBuffer) → r ≡ Nothing → chosen empty_small l r ≡ o → none ≡ o
+pub found_none : (l : List SmallBuffer) (r : Choice) (o : Option SmallBuffer) → r ≡ None → chosen empty_small l r ≡ o → none ≡ o
 unfolding chosen
 found_none l r o e h = sym (ap (chosen empty_small l) e) ∙ h

@@ -15,11 +15,12 @@ use Rattle.lists.specs.Order.{without}
 use Rattle.lists.specs.Walks.{sum}
 use Rattle.lists.proofs.Tests.{neither, both, all_implies, all_append, length-filter, any_none}
 use Rattle.lists.proofs.Every.{and-true}
-use Rattle.lists.proofs.Filled.{take-packed}
 use Rattle.lists.proofs.Members.{member-first, all_without}
 use Rattle.lists.proofs.Distinct.{pairs-filter, sum-without-one}
 use Rattle.lists.proofs.Pairs.{pairs-append}
 use Rattle.lists.proofs.Walks.{sum-append}
+use Rattle.cells.specs.Table.{entries, pack}
+use Rattle.cells.proofs.Packs.{entries_pack}
 use Rattle.words.specs.Answers.{lent}
 use Rattle.words.specs.declared.Answer.{Answer}
 use Rattle.words.specs.declared.Answer.TheVariants.{Done, Failed, Missing}
@@ -38,7 +39,7 @@ use Rattle.answering.proofs.Live.{malloc-live, free-live}
 use Rattle.answering.proofs.OpenLive.{open-live}
 use Rattle.answering.proofs.PageSize.{malloc-page, free-page}
 use Rattle.answering.proofs.Stops.{free-stops}
-use Rattle.manager_rules.specs.Values.{BYTES, SMALLS, small_buffer, empty_small, pack_small, small_of, small, with_pool, over, closed_manager}
+use Rattle.manager_rules.specs.Values.{BYTES, SMALLS, small_buffer, empty_small, small, with_pool, over, closed_manager}
 use Rattle.manager_rules.specs.Sizes.{Request, unfit, smaller, whole, rounded, request}
 use Rattle.manager_rules.specs.WellFormed.{well_formed}
 use Rattle.manager_rules.specs.HandsBack.{Reply, admitted}
@@ -63,15 +64,14 @@ use Rattle.manager_rules.proofs.Own.{Small, formed, Entered, admitted-entered}
 
 -- the list that a table was made of is the one that is read
 pub small_with : (m : Manager) (l : List SmallBuffer) → small (with_small m l) ≡ l
-unfolding small_of pack_small
-small_with m l = take-packed SMALLS empty_small l
+small_with m l = entries_pack SMALLS empty_small l
 
 length-small : (m : Manager) → length (small m) ≤ m.small.count
-unfolding small_of
+unfolding entries
 length-small m = simp length-take (omega arith)
 
 count_with : (m : Manager) (l : List SmallBuffer) → length l ≤ SMALLS → (with_small m l).small.count ≤ SMALLS
-unfolding pack_small
+unfolding pack
 count_with m l h = h
 
 -- a size below a page is not 0 where a small buffer is asked for

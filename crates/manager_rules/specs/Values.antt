@@ -1,10 +1,10 @@
 -- docs/RULES.md 12.1: the layer's value. Its table is a list here.
-use Rattle.std.specs.Prelude.{List, [], ℕ, ◌^◌, length, take}
-use Rattle.lists.specs.Cells.{packed}
+use Rattle.std.specs.Prelude.{List, [], ℕ, ◌^◌}
+use Rattle.cells.specs.Table.{entries, pack}
+use Rattle.cells.specs.declared.Table.{Table}
 use Rattle.tables.specs.Values.{closed_pool}
 use Rattle.tables.specs.declared.Pool.{Pool}
 use Rattle.manager_rules.specs.declared.SmallBuffer.{SmallBuffer}
-use Rattle.manager_rules.specs.declared.SmallBuffers.{SmallBuffers}
 use Rattle.manager_rules.specs.declared.Manager.{Manager}
 
 abbrev pub SMALLS : ℕ
@@ -20,12 +20,15 @@ small_buffer pointer size stream = record { pointer = pointer; size = size; stre
 abbrev pub empty_small : SmallBuffer
 empty_small = small_buffer 0 0 0
 
--- The table and its list, as with the pool's: the first cells, as many as its count; every other cell of a table that was changed is 0.
-unfoldable pub small_of : SmallBuffers → List SmallBuffer
-small_of t = take t.count t.cells
+abbrev pub SmallBuffers : Type 0
+SmallBuffers = Table SmallBuffer SMALLS
 
-unfoldable pub pack_small : List SmallBuffer → SmallBuffers
-pack_small l = record { cells = packed SMALLS empty_small l; count = length l }
+-- The table and its list, as with the pool's: the first cells, as many as its count; every other cell of a table that was changed is 0.
+abbrev pub small_of : SmallBuffers → List SmallBuffer
+small_of = entries
+
+abbrev pub pack_small : List SmallBuffer → SmallBuffers
+pack_small = pack empty_small
 
 abbrev pub no_small : SmallBuffers
 no_small = pack_small []

@@ -2,8 +2,9 @@
 #![tactic(auto)]
 
 ghost use Rattle.std.specs.Prelude.{◌≡◌};
-ghost use Rattle.manager_rules.specs.Values.{closed_manager, no_small};
+ghost use Rattle.manager_rules.specs.Values.{closed_manager, empty_small};
 
+use cells::{Entry, Table};
 use tables::Pool;
 
 // A buffer smaller than a page, which is the driver's own.
@@ -15,32 +16,28 @@ pub struct SmallBuffer {
     pub stream: u64,
 }
 
-impl SmallBuffer {
-    pub const EMPTY: SmallBuffer = SmallBuffer {
+impl Entry for SmallBuffer {
+    const EMPTY: SmallBuffer = SmallBuffer {
         pointer: 0,
         size: 0,
         stream: 0,
     };
+
+    ghost EMPTY = { empty_small };
+
+    ghost key = { λ b. b.pointer };
+
+    fn key(self) -> u64 {
+        self.pointer
+    }
+
+    fn bits(self) -> u64 {
+        self.pointer | self.size | self.stream
+    }
 }
 
 // In the order in which they came.
-#[repr(C)]
-#[derive(Clone, Copy)]
-pub struct SmallBuffers {
-    pub cells: [SmallBuffer; Manager::SMALLS],
-    pub count: usize,
-}
-
-impl SmallBuffers {
-    pub fn empty() -> SmallBuffers
-        ensures { result ≡ no_small }
-    {
-        SmallBuffers {
-            cells: [SmallBuffer::EMPTY; Manager::SMALLS],
-            count: 0,
-        }
-    }
-}
+pub type SmallBuffers = Table<SmallBuffer, { Manager::SMALLS }>;
 
 // The bytes that are held now, and the most that ever were.
 #[repr(C)]
@@ -67,11 +64,9 @@ impl Manager {
     pub fn closed() -> Manager
         ensures { result ≡ closed_manager }
     {
-        let pool = Pool::closed();
-        let small = SmallBuffers::empty();
         Manager {
-            pool,
-            small,
+            pool: Pool::closed(),
+            small: Table::empty(),
             current: 0,
             highest: 0,
         }

@@ -1,1 +1,1 @@
-pub mod Handles
+pub mod Chosen

@@ -1,7 +1,5 @@
-// The entries of four tables: active pages, live buffers, zombies and roots. Each function is equal to its rule over the table's list.
+// The entries of two tables, active pages and roots, beyond what every table does. Each function is equal to its rule over the table's list.
 #![tactic(auto)]
 
-pub mod buffers;
 pub mod pages;
 pub mod roots;
-pub mod zombies;

@@ -1,7 +1,8 @@
 pub mod PageWalk
-pub mod SideBySide
-pub mod FourTables
+pub mod Fronts
+pub mod Walks
 pub mod SpacedRanges
 pub mod TestsAreSound
 pub mod Ceilings
 pub mod RemainderMarks
+pub mod Rising

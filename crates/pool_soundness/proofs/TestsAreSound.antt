@@ -50,22 +50,18 @@ use Rattle.keeping.proofs.Inside.{in_common, inside-covered}
 use Rattle.keeping.proofs.PageStarts.{WholeSpan, cover_spans}
 use Rattle.keeping.proofs.Ranges.{of_hole, of_zombie}
 use Rattle.keeping.proofs.WellFormedTests.{Clauses, clauses_hold, of-parted, of_loose, whole_span-of, of_whole_span}
-use Rattle.pool_soundness.specs.Tests.{is_inside, untouched, roots_pass, placed, passes, names_pass, InOrder}
+use Rattle.pool_soundness.specs.Tests.{ranges_in, is_inside, untouched, roots_pass, placed, passes, names_pass, InOrder}
 use Rattle.pool_soundness.proofs.SpacedRanges.{is_aligned, spaced, Before, Low, spaced_low, spaced-before, before_spaced, untouched_loose, loose-untouched}
 
 abbrev start : Range → ℕ
 start h = h.from
-
--- all ranges in one order
-abbrev pub all_ranges : Tables → List Range
-all_ranges t = sorted start (spans t ++ (holes_in t ++ map of_zombie (sorted (λ z. z.start.0) t.zombies)))
 
 -- the tests in the code's order
 abbrev pub tested : Tables → Bool
 tested t =
     allowed t.fields.page t.fields.va
     && (roots_pass t.fields.page t.fields.va t.roots
-    && (passes t.fields.page t.fields.va t.roots 0 (all_ranges t)
+    && (passes t.fields.page t.fields.va t.roots 0 (ranges_in t)
     && (untouched 0 (holes_in t) && (pages_match t && names_pass t.free t.zombies t.pages t.fields.counter))))
 
 -- the test of each range in turn is the three tests of all
@@ -109,7 +105,7 @@ module _ (t : Tables) where
   zombies_are = map-sorted of_zombie start t.zombies
 
   -- what holds of every range of the tables, and of all in one order
-  all_in : (P : Range → Type 0) → All P (ranges t) → All P (all_ranges t)
+  all_in : (P : Range → Type 0) → All P (ranges t) → All P (ranges_in t)
   all_in P a =
       let z = map of_zombie t.zombies in
       let u = all_second P (spans t) (holes_in t ++ z) a in
@@ -118,7 +114,7 @@ module _ (t : Tables) where
       (all_append P (spans t) (holes_in t ++ sorted start z) (all_first P (spans t) (holes_in t ++ z) a)
       (all_append P (holes_in t) (sorted start z) (all_first P (holes_in t) z u) (all-sorted start P z (all_second P (holes_in t) z u)))))
 
-  all_out : (P : Range → Type 0) → All P (all_ranges t) → All P (ranges t)
+  all_out : (P : Range → Type 0) → All P (ranges_in t) → All P (ranges t)
   all_out P a =
       let z = map of_zombie t.zombies in
       let u : All P (spans t ++ (holes_in t ++ sorted start z)) = all_unsorted start P (spans t ++ (holes_in t ++ sorted start z)) (rw zombies_are at a) in
@@ -126,15 +122,15 @@ module _ (t : Tables) where
       all_append P (spans t) (holes_in t ++ z) (all_first P (spans t) (holes_in t ++ sorted start z) u)
       (all_append P (holes_in t) z (all_first P (holes_in t) (sorted start z) v) (all_unsorted start P z (all_second P (holes_in t) (sorted start z) v)))
 
-  pub all-spans : (P : Range → Type 0) → All P (all_ranges t) → All P (spans t)
+  pub all-spans : (P : Range → Type 0) → All P (ranges_in t) → All P (spans t)
   all-spans P a = all_first P (spans t) (holes_in t ++ map of_zombie t.zombies) (all_out P a)
 
-  pub all-holes : (P : Range → Type 0) → All P (all_ranges t) → All P (holes_in t)
+  pub all-holes : (P : Range → Type 0) → All P (ranges_in t) → All P (holes_in t)
   all-holes P a =
       let z = map of_zombie t.zombies in
       all_first P (holes_in t) z (all_second P (spans t) (holes_in t ++ z) (all_out P a))
 
-  cover_all : (x : ℕ) → cover_spans (all_ranges t) x ≡ cover_spans (ranges t) x
+  cover_all : (x : ℕ) → cover_spans (ranges_in t) x ≡ cover_spans (ranges t) x
   cover_all x =
       let f : Range → ℕ = λ h. within h.from h.size x in
       let z = map of_zombie t.zombies in
@@ -169,18 +165,18 @@ module _ (t : Tables) where
       let a = both (allowed t.fields.page t.fields.va) _ e in
       let b = both (roots_pass t.fields.page t.fields.va t.roots) _ a.1 in
       let r = both (roots_disjoint t) (roots_aligned t) b.0 in
-      let c = both (passes t.fields.page t.fields.va t.roots 0 (all_ranges t)) _ b.1 in
-      let d = passes-parts t.fields.page t.fields.va t.roots 0 (all_ranges t) c.0 in
+      let c = both (passes t.fields.page t.fields.va t.roots 0 (ranges_in t)) _ b.1 in
+      let d = passes-parts t.fields.page t.fields.va t.roots 0 (ranges_in t) c.0 in
       let f = d.1 in
       let g = both (untouched 0 (holes_in t)) _ c.1 in
       let h = both (pages_match t) _ g.1 in
       let n = both (handles_distinct t) _ h.1 in
       let ids = both (free_ids_distinct t) (ids_below t) n.1 in
       let wholes : All (WholeSpan t.fields.page) (ranges t) =
-      all_out (WholeSpan t.fields.page) (every-all _ _ (whole_span-of t.fields.page) (all_ranges t) d.0) in
+      all_out (WholeSpan t.fields.page) (every-all _ _ (whole_span-of t.fields.page) (ranges_in t) d.0) in
       let once : (x : ℕ) → cover_spans (ranges t) x ≤ 1 =
-      λ x. omega (arith, cover_all x, parted-once start (λ k. k.size) (all_ranges t) (pairs_implies Before _ (λ k m p. omega arith) (all_ranges t) (spaced-before 0 (all_ranges t) f.0)) x) in
-      let inside : All (λ k. is_inside t.fields.va t.roots k ≡ true) (ranges t) = all_out _ (every-all _ _ (λ k q. q) (all_ranges t) f.1) in
+      λ x. omega (arith, cover_all x, parted-once start (λ k. k.size) (ranges_in t) (pairs_implies Before _ (λ k m p. omega arith) (ranges_in t) (spaced-before 0 (ranges_in t) f.0)) x) in
+      let inside : All (λ k. is_inside t.fields.va t.roots k ≡ true) (ranges t) = all_out _ (every-all _ _ (λ k q. q) (ranges_in t) f.1) in
       and-true (allowed t.fields.page t.fields.va) _ a.0
       (and-true (roots_disjoint t) _ r.0
       (and-true (roots_aligned t) _ r.1
@@ -235,7 +231,7 @@ module _ (t : Tables) where
       let h = both (inside_roots t) _ g.1 in
       let i = both (no_holes_touch t) _ h.1 in
       let j = both (pages_match t) _ i.1 in
-      let l = all_ranges t in
+      let l = ranges_in t in
       let positive : All (λ k. 0 < k.size) l = all_in _ (all_implies (WholeSpan t.fields.page) _ (λ k w. w.size.positive) (ranges t) c.whole) in
       let once : (x : ℕ) → cover_spans l x ≤ 1 = λ x. omega (arith, cover_all x, parted-once start (λ k. k.size) (ranges t) c.parted x) in
       let before : Pairs Before l = ordered start (λ k. k.size) 0 l positive (sorted-ascends start (spans t ++ (holes_in t ++ map of_zombie (sorted (λ z. z.start.0) t.zombies)))) once in
@@ -259,13 +255,13 @@ pub tested-sound : (t : Tables) → InOrder t → tested t ≡ sound t
 tested-sound t o = same_tests (tested t) (sound t) (tested-passes t o) (passes_tested t)
 
 -- what is known of all ranges once they pass, for the tests after
-pub ranges_low : (t : Tables) → passes t.fields.page t.fields.va t.roots 0 (all_ranges t) ≡ true → All Low (all_ranges t)
-ranges_low t e = spaced_low 0 (all_ranges t) (passes-parts t.fields.page t.fields.va t.roots 0 (all_ranges t) e).1.0
+pub ranges_low : (t : Tables) → passes t.fields.page t.fields.va t.roots 0 (ranges_in t) ≡ true → All Low (ranges_in t)
+ranges_low t e = spaced_low 0 (ranges_in t) (passes-parts t.fields.page t.fields.va t.roots 0 (ranges_in t) e).1.0
 
-pub spans-paged : (t : Tables) → 0 < t.fields.page → passes t.fields.page t.fields.va t.roots 0 (all_ranges t) ≡ true →
+pub spans-paged : (t : Tables) → 0 < t.fields.page → passes t.fields.page t.fields.va t.roots 0 (ranges_in t) ≡ true →
     All (λ h. (t.fields.page ≤ h.size) × (upto h ≤ END)) (spans t)
 spans-paged t p e =
-    all-spans t _ (all_both _ _ (all_ranges t) (every-all _ _ paged (all_ranges t) (passes-parts t.fields.page t.fields.va t.roots 0 (all_ranges t) e).0) (ranges_low t e))
+    all-spans t _ (all_both _ _ (ranges_in t) (every-all _ _ paged (ranges_in t) (passes-parts t.fields.page t.fields.va t.roots 0 (ranges_in t) e).0) (ranges_low t e))
   where
     paged : (h : Range) → is_aligned t.fields.page h ≡ true → t.fields.page ≤ h.size
     paged h q =

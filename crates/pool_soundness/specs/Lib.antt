@@ -1,3 +1,3 @@
 pub mod Tests
 pub mod Promises
-pub mod Fronts
+pub mod Walks

@@ -1,36 +1,21 @@
 -- The tests that the code makes of ranges in ascending address, one pass each.
-use Rattle.std.specs.Prelude.{Bool, true, ◌&&◌, not, List, [], ◌∷◌, ◌++◌, map, ℕ, ◌-◌, ◌/◌, ltb, leb, eqb}
-use Rattle.lists.specs.Tests.{every, pairwise, distinct, same}
+use Rattle.std.specs.Prelude.{Bool, true, ◌&&◌, not, List, [], ◌∷◌, ◌++◌, map, ℕ, ◌-◌, ltb, leb, eqb}
+use Rattle.lists.specs.Tests.{every, pairwise, distinct}
 use Rattle.lists.specs.Order.{Ascends, sorted}
-use Rattle.lists.specs.Walks.{sum, joined}
+use Rattle.lists.specs.Walks.{sum}
 use Rattle.words.specs.declared.Address.{Address}
 use Rattle.tables.specs.Bounds.{END}
-use Rattle.tables.specs.Values.{Tables, free_of, live_of, holes_of, zombies_of}
-use Rattle.tables.specs.Pull.{starts}
+use Rattle.tables.specs.Values.{Tables}
 use Rattle.tables.specs.TakeRange.{apart}
 use Rattle.tables.specs.declared.FreeRegion.{FreeRegion}
-use Rattle.tables.specs.declared.LiveBuffer.{LiveBuffer}
-use Rattle.tables.specs.declared.Hole.{Hole}
 use Rattle.tables.specs.declared.Zombie.{Zombie}
 use Rattle.tables.specs.declared.Page.{Page}
-use Rattle.tables.specs.declared.FreeRegions.{FreeRegions}
-use Rattle.tables.specs.declared.LiveBuffers.{LiveBuffers}
-use Rattle.tables.specs.declared.Holes.{Holes}
-use Rattle.tables.specs.declared.Zombies.{Zombies}
-use Rattle.tables.specs.WellFormed.{range, upto, common, whole}
+use Rattle.tables.specs.WellFormed.{range, upto, common, whole, spans, holes_in}
 use Rattle.tables.specs.WellFormed as well_formed
 
--- the ranges of free and live, and of holes and zombies
-abbrev pub spans_in : List FreeRegion → List LiveBuffer → List well_formed.Range
-spans_in free live = map (λ f. range f.start.0 f.size) free ++ map (λ b. range b.start.0 b.size) live
-
-abbrev pub unmapped_in : List Hole → List Zombie → List well_formed.Range
-unmapped_in holes zombies = map (λ h. range h.start.0 h.size) holes ++ map (λ z. range z.start.0 z.size) zombies
-
--- the ranges of four tables, in ascending address
-abbrev pub ranges_of : FreeRegions → LiveBuffers → Holes → Zombies → List well_formed.Range
-ranges_of free live holes zombies =
-    sorted (λ h. h.from) (spans_in (free_of free) (live_of live) ++ unmapped_in (holes_of holes) (zombies_of zombies))
+-- the ranges of all four tables, in ascending address
+abbrev pub ranges_in : Tables → List well_formed.Range
+ranges_in t = sorted (λ h. h.from) (spans t ++ (holes_in t ++ map (λ z. range z.start.0 z.size) (sorted (λ z. z.start.0) t.zombies)))
 
 -- how many addresses of a range are in the roots
 abbrev pub bytes_inside : ℕ → List Address → well_formed.Range → ℕ
@@ -54,13 +39,9 @@ abbrev pub passes : ℕ → ℕ → List Address → ℕ → List well_formed.Ra
 passes page va roots b [] = true
 passes page va roots b (h ∷ l) = placed page va roots b h && passes page va roots (upto h) l
 
--- the tests of the roots, of the pages, of handles and ids
+-- the tests of the roots, of handles and ids
 unfoldable pub roots_pass : ℕ → ℕ → List Address → Bool
 roots_pass page va roots = pairwise (λ a b. apart va a.0 b.0) roots && every (λ a. whole page a.0 && leb a.0 (END - va)) roots
-
-abbrev pub pages_pass : ℕ → List Page → List FreeRegion → List LiveBuffer → Bool
-pages_pass page pages free live =
-    same (map (λ g. g.start.0) pages) (joined (λ h. starts (h.size / page) h.from page) (sorted (λ h. h.from) (spans_in free live)))
 
 unfoldable pub names_pass : List FreeRegion → List Zombie → List Page → ℕ → Bool
 names_pass free zombies pages counter =

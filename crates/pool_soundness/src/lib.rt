@@ -1,12 +1,12 @@
 // docs/RULES.md 5, well formed, as a test of a pool: equal to its definition whatever the counts and numbers.
 #![tactic(auto)]
 
-mod fronts;
 mod names;
 mod numbers;
 mod pages;
 mod ranges;
 mod roots;
+mod walk;
 
 ghost use Rattle.std.specs.Prelude.{◌≡◌, true};
 ghost use Rattle.tables.specs.Values.{tables_of};
@@ -15,7 +15,7 @@ ghost use Rattle.pool_soundness.specs.Tests.{InOrder};
 
 use names::names_sound;
 use pages::pages_match;
-use ranges::{holes_untouched, ranges_sound, zombies_sorted};
+use ranges::{holes_untouched, ranges_sound};
 use roots::roots_sound;
 use tables::Pool;
 
@@ -23,47 +23,19 @@ use tables::Pool;
 pub fn is_allowed(page: u64, va: u64) -> bool
     ensures { result ≡ allowed page va }
 {
-    if page == 0 {
-        return false;
-    }
-    if va == 0 {
-        return false;
-    }
-    if va % page != 0 {
-        return false;
-    }
-    va <= Pool::VA
+    page != 0 && va != 0 && va % page == 0 && va <= Pool::VA
 }
 
 // docs/RULES.md 5.2 to 5.6, of a pool whose tables are in order. A test leans on those before it.
-pub fn is_sound(p: Pool) -> bool
-    requires p_value { ceilings_kept p ≡ true }
-    requires in_order { InOrder (tables_of p) }
-    ensures { result ≡ sound (tables_of p) }
+pub fn is_sound(pool: &Pool) -> bool
+    requires p_value { ceilings_kept pool.now ≡ true }
+    requires in_order { InOrder (tables_of pool.now) }
+    ensures { result ≡ sound (tables_of pool.now) }
 {
-    let page = p.page;
-    let va = p.va;
-    if !is_allowed(page, va) {
-        return false;
-    }
-    let roots = p.roots;
-    if !roots_sound(roots, page, va) {
-        return false;
-    }
-    let free = p.free;
-    let live = p.live;
-    let holes = p.holes;
-    let zombies = p.zombies;
-    let last = zombies_sorted(zombies);
-    if !ranges_sound(free, live, holes, last, roots, page, va) {
-        return false;
-    }
-    if !holes_untouched(holes) {
-        return false;
-    }
-    let pages = p.pages;
-    if !pages_match(pages, free, live, page) {
-        return false;
-    }
-    names_sound(free, zombies, pages, p.counter)
+    is_allowed(pool.page, pool.va)
+        && roots_sound(&pool.roots, pool.page, pool.va)
+        && ranges_sound(pool)
+        && holes_untouched(&pool.holes)
+        && pages_match(pool)
+        && names_sound(&pool.free, &pool.zombies, &pool.pages, pool.counter)
 }

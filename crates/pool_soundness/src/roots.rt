@@ -7,93 +7,67 @@ ghost use Rattle.tables.specs.WellFormed.{range, common, whole};
 ghost use Rattle.tables.specs.TakeRange.{apart};
 ghost use Rattle.pool_soundness.specs.Tests.{is_inside, roots_pass};
 ghost use Rattle.pool_soundness.specs.Promises.{Bounded};
+ghost use Rattle.pool_soundness.specs.Walks.{range_of};
 
-use crate::numbers::{higher_of, is_whole, lower_of};
+use crate::numbers::is_whole;
+use crate::walk::Front;
 use plain_tables::roots::is_apart;
 use tables::{Pool, Roots};
 
 // Roots aligned, nonzero, ending at or below 2^63.
-fn roots_aligned(t: Roots, page: u64, va: u64) -> bool
-    requires { (t.count ≤ ROOTS) × ((0 < page) × (va ≤ VA)) }
-    ensures { result ≡ every (λ a. whole page a.0 && leb a.0 (END - va)) (roots_of t) }
+fn roots_aligned(roots: &Roots, page: u64, va: u64) -> bool
+    requires { (roots.now.count ≤ ROOTS) × ((0 < page) × (va ≤ VA)) }
+    ensures { result ≡ every (λ a. whole page a.0 && leb a.0 (END - va)) (roots_of roots.now) }
 {
-    let highest = Pool::END - va;
-    let count = t.count;
-    let mut i = 0;
-    while i < count {
-        let a = t.cells[i];
-        if !is_whole(page, a.0) {
-            return false;
-        }
-        if highest < a.0 {
-            return false;
-        }
-        i += 1;
-    }
-    true
+    roots
+        .entries()
+        .iter()
+        .all(|a| is_whole(page, a.0) && a.0 <= Pool::END - va)
 }
 
 // Roots disjoint: each is apart from those after it.
-fn roots_disjoint(t: Roots, va: u64) -> bool
-    requires { t.count ≤ ROOTS }
-    ensures { result ≡ pairwise (λ a b. apart va a.0 b.0) (roots_of t) }
+fn roots_disjoint(roots: &Roots, va: u64) -> bool
+    requires { roots.now.count ≤ ROOTS }
+    ensures { result ≡ pairwise (λ a b. apart va a.0 b.0) (roots_of roots.now) }
 {
-    let count = t.count;
-    let mut i = 0;
-    while i < count {
-        let a = t.cells[i];
-        let mut j = i + 1;
-        while j < count {
-            let b = t.cells[j];
-            if !is_apart(va, a.0, b.0) {
-                return false;
-            }
-            j += 1;
+    let mut left = roots.entries();
+    while let Some((a, rest)) = left.split_first() {
+        if !rest.iter().all(|b| is_apart(va, a.0, b.0)) {
+            return false;
         }
-        i += 1;
+        left = rest;
     }
     true
 }
 
 // Roots disjoint, aligned, nonzero, ending at or below 2^63.
-pub fn roots_sound(t: Roots, page: u64, va: u64) -> bool
-    requires { (t.count ≤ ROOTS) × ((0 < page) × (va ≤ VA)) }
-    ensures { result ≡ roots_pass page va (roots_of t) }
+pub fn roots_sound(roots: &Roots, page: u64, va: u64) -> bool
+    requires { (roots.now.count ≤ ROOTS) × ((0 < page) × (va ≤ VA)) }
+    ensures { result ≡ roots_pass page va (roots_of roots.now) }
 {
-    if !roots_disjoint(t, va) {
-        return false;
-    }
-    roots_aligned(t, page, va)
+    roots_disjoint(roots, va) && roots_aligned(roots, page, va)
 }
 
 // How many addresses a range and the one of `va` bytes from `a` have in common.
-fn common_bytes(from: u64, size: u64, a: u64, va: u64) -> u64
-    requires { (from + size ≤ END) × (a + va ≤ END) }
-    ensures { result ≡ common (range from size) (range a va) }
+fn common_bytes(x: Front, a: u64, va: u64) -> u64
+    requires { (x.from + x.size ≤ END) × (a + va ≤ END) }
+    ensures { result ≡ common (range_of x) (range a va) }
 {
-    let end = lower_of(from + size, a + va);
-    let start = higher_of(from, a);
-    if end < start {
-        return 0;
-    }
-    end - start
+    let end = (x.from + x.size).min(a + va);
+    end.saturating_sub(x.from.max(a))
 }
 
 // Whether all addresses of a range are in the roots. As they are disjoint, no sum of what is in common is above the size.
-pub fn is_inside(from: u64, size: u64, roots: Roots, va: u64) -> bool
-    requires { Bounded from size roots va }
-    ensures { result ≡ is_inside va (roots_of roots) (range from size) }
+pub fn is_inside(x: Front, roots: &Roots, va: u64) -> bool
+    requires { Bounded x roots.now va }
+    ensures { result ≡ is_inside va (roots_of roots.now) (range_of x) }
 {
-    let count = roots.count;
-    let mut sum: u64 = 0;
-    let mut i = 0;
-    while i < count {
-        let a = roots.cells[i];
-        sum += common_bytes(from, size, a.0, va);
-        if sum == size {
+    let mut sum = 0;
+    for a in roots.entries() {
+        sum += common_bytes(x, a.0, va);
+        if sum == x.size {
             return true;
         }
-        i += 1;
     }
     false
 }

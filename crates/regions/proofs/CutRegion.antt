@@ -10,7 +10,7 @@ use Rattle.lists.proofs.Keys.{without_key, put-without}
 use Rattle.tables.specs.Values.{region, free_of, empty_region}
 use Rattle.tables.specs.InsertFree.{from}
 use Rattle.tables.specs.declared.FreeRegion.{FreeRegion}
-use Rattle.tables.specs.declared.FreeRegions.{FreeRegions}
+use Rattle.tables.specs.Values.{FreeRegions}
 use Rattle.tables.proofs.Packs.{free-count}
 use Rattle.regions.specs.Cutting.{region_at, cut_free, Cuttable}
 

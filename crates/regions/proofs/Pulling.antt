@@ -1,6 +1,6 @@
 -- The next to pull is the oldest of this stream, else of the others; and to pull by repeated choice is to pull by the order.
 use mathlib.Core.Path.{◌≡◌, refl, ap, sym, ◌∙◌}
-use mathlib.Core.Bool.{Bool, true, false, cond, not, ◌&&◌, true≢false}
+use mathlib.Core.Bool.{Bool, true, false, not, ◌&&◌, true≢false}
 use mathlib.Core.List.{List, [], ◌∷◌}
 use mathlib.Core.Option.{Option, some, none}
 use Prim.Native.Nat.{ℕ}
@@ -10,8 +10,6 @@ use lib.Dec.{eqb}
 use Rattle.lists.specs.Tests.{All, Member, filter}
 use Rattle.lists.specs.Order.{sorted, Rises, least}
 use Rattle.lists.specs.Front.{front, or_else}
-use Rattle.lists.specs.Scan.{better}
-use Rattle.lists.specs.declared.Best.{Best}
 use Rattle.lists.proofs.Members.{member-least, member_filter, all-members}
 use Rattle.lists.proofs.Filters.{rises-filter, filter-both, filter_commute, filter-all}
 use Rattle.lists.proofs.Keys.{rises-same}
@@ -19,9 +17,10 @@ use Rattle.lists.proofs.Front.{front-append, front-sorted, sorted-least}
 use Rattle.tables.specs.InsertFree.{from, without_free}
 use Rattle.tables.specs.Pull.{own_of, others_of, pull_order}
 use Rattle.tables.specs.declared.FreeRegion.{FreeRegion}
+use Rattle.words.specs.declared.Address.{Address}
+use Rattle.std.specs.Prelude.{Some, None, Option as Maybe}
+use Rattle.std.specs.Option.{MatchOption}
 use Rattle.regions.specs.Pulling.{next_to_pull, besides, is_made}
-use Rattle.regions.specs.declared.Made.{Made}
-use Rattle.regions.specs.declared.Made.TheVariants.{Region, Nothing}
 
 abbrev pub age : FreeRegion → ℕ
 age r = r.id.0
@@ -31,18 +30,39 @@ unfolding next_to_pull
 next-is s l = front-append (sorted age (own_of s l)) (sorted age (others_of s l)) ∙ rw (front-sorted age (own_of s l), front-sorted age (others_of s l))
 
 -- one of this stream that is not the one just made, and one of another stream
-abbrev pub own : Made → ℕ → FreeRegion → Bool
+abbrev pub own : Maybe Address → ℕ → FreeRegion → Bool
 own m s q = not (is_made m q) && eqb q.stream s
 
-abbrev pub other : Made → ℕ → FreeRegion → Bool
+abbrev pub other : Maybe Address → ℕ → FreeRegion → Bool
 other m s q = not (is_made m q) && not (eqb q.stream s)
 
-besides-is : (m : Made) (l : List FreeRegion) → besides m l ≡ filter (λ q. not (is_made m q)) l
-unfolding besides is_made
-besides-is (Region a) l = refl
-besides-is Nothing l = sym (filter-all l)
+-- what a test of the address made gives
+pub made-is : {P : Address → Type 0} (m : Maybe Address) (q : FreeRegion) (r : Bool) → MatchOption m (r ≡ false) P →
+    ((a : Address) → P a → r ≡ eqb (from q) a.0) → r ≡ is_made m q
+unfolding is_made
+made-is None q r h f = h
+made-is (Some a) q r h f = f a h
 
-next-besides : (m : Made) (s : ℕ) (l : List FreeRegion) →
+-- The region just made is in neither scan, and another is in one of them, by its stream.
+module _ (m : Maybe Address) (s : ℕ) (q : FreeRegion) where
+  pub own-made : is_made m q ≡ true → own m s q ≡ false
+  own-made e = rw e
+
+  pub other-made : is_made m q ≡ true → other m s q ≡ false
+  other-made e = rw e
+
+  pub own-is : is_made m q ≡ false → own m s q ≡ eqb q.stream s
+  own-is e = rw e
+
+  pub other-is : is_made m q ≡ false → other m s q ≡ not (eqb q.stream s)
+  other-is e = rw e
+
+besides-is : (m : Maybe Address) (l : List FreeRegion) → besides m l ≡ filter (λ q. not (is_made m q)) l
+unfolding besides is_made
+besides-is (Some a) l = refl
+besides-is None l = sym (filter-all l)
+
+next-besides : (m : Maybe Address) (s : ℕ) (l : List FreeRegion) →
     next_to_pull s (besides m l) ≡ or_else (least age (filter (own m s) l)) (least age (filter (other m s) l))
 next-besides m s l =
     let a : own_of s (besides m l) ≡ filter (own m s) l = ap (own_of s) (besides-is m l) ∙ filter-both (λ q. not (is_made m q)) (λ q. eqb q.stream s) l in
@@ -51,57 +71,20 @@ next-besides m s l =
     next-is s (besides m l) ∙ rw (a, b)
 
 -- a region pulled is taken out of the others too
-pub besides-without : (m : Made) (a : ℕ) (l : List FreeRegion) → besides m (without_free a l) ≡ without_free a (besides m l)
+pub besides-without : (m : Maybe Address) (a : ℕ) (l : List FreeRegion) → besides m (without_free a l) ≡ without_free a (besides m l)
 unfolding besides
-besides-without (Region b) a l = filter_commute (λ q. not (eqb (from q) a)) (λ q. not (eqb (from q) b.0)) l
-besides-without Nothing a l = refl
+besides-without (Some b) a l = filter_commute (λ q. not (eqb (from q) a)) (λ q. not (eqb (from q) b.0)) l
+besides-without None a l = refl
 
-pub rises-besides : (m : Made) (b : ℕ) (l : List FreeRegion) → Rises from b l → Rises from b (besides m l)
+pub rises-besides : (m : Maybe Address) (b : ℕ) (l : List FreeRegion) → Rises from b l → Rises from b (besides m l)
 unfolding besides
-rises-besides (Region a) b l r = rises-filter from (λ q. not (eqb (from q) a.0)) b l r
-rises-besides Nothing b l r = r
+rises-besides (Some a) b l r = rises-filter from (λ q. not (eqb (from q) a.0)) b l r
+rises-besides None b l r = r
 
 -- what the two scans have found at the end
-pub next-found : (m : Made) (s : ℕ) (l : List FreeRegion) (a b : Option FreeRegion) → a ≡ least age (filter (own m s) l) → b ≡ least age (filter (other m s) l) →
+pub next-found : (m : Maybe Address) (s : ℕ) (l : List FreeRegion) (a b : Option FreeRegion) → a ≡ least age (filter (own m s) l) → b ≡ least age (filter (other m s) l) →
     or_else a b ≡ next_to_pull s (besides m l)
 next-found m s l a b e f = rw (e, f) (sym (next-besides m s l))
-
--- the oldest so far, of this stream and of the others
-pub record Oldest : Type 0 where
-  pub own : Best
-  pub other : Best
-
--- the oldest so far, once the region `q` at place `i` is seen
-unfoldable pub older_of : Made → ℕ → ℕ → Oldest → FreeRegion → Oldest
-older_of m s i o q =
-    cond (is_made m q) o (
-    cond (eqb q.stream s)
-    (record { own = better i q.id.0 o.own; other = o.other })
-    (record { own = o.own; other = better i q.id.0 o.other }))
-
--- a turn of the scan, for each of the two
-module _ (m : Made) (s i : ℕ) (o : Oldest) (q : FreeRegion) where
-  pub older-own : (older_of m s i o q).own ≡ cond (own m s q) (better i (age q) o.own) o.own
-  unfolding older_of
-  older-own = go (is_made m q) (eqb q.stream s)
-    where
-      go : (a b : Bool) →
-          (cond a o (cond b (record { own = better i (age q) o.own; other = o.other }) (record { own = o.own; other = better i (age q) o.other }))).own ≡
-          cond (not a && b) (better i (age q) o.own) o.own
-      go true b = refl
-      go false true = refl
-      go false false = refl
-
-  pub older-other : (older_of m s i o q).other ≡ cond (other m s q) (better i (age q) o.other) o.other
-  unfolding older_of
-  older-other = go (is_made m q) (eqb q.stream s)
-    where
-      go : (a b : Bool) →
-          (cond a o (cond b (record { own = better i (age q) o.own; other = o.other }) (record { own = o.own; other = better i (age q) o.other }))).other ≡
-          cond (not a && not b) (better i (age q) o.other) o.other
-      go true b = refl
-      go false true = refl
-      go false false = refl
 
 bare : (l : List FreeRegion) → least age l ≡ none → l ≡ []
 bare [] e = refl

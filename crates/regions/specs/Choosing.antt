@@ -1,17 +1,10 @@
 -- Which free regions count in a scan for the best, what it chooses, and what becomes of it.
 use Rattle.std.specs.Prelude.{Bool, cond, ◌&&◌, List, map, ℕ, leb, eqb}
 use Rattle.std.proofs.Math.Option.{Option}
-use Rattle.lists.specs.declared.Best.{Best}
 use Rattle.tables.specs.InsertFree.{from}
 use Rattle.tables.specs.Pull.{own_of}
 use Rattle.tables.specs.Fit.{candidates, smallest, on_stream}
 use Rattle.tables.specs.declared.FreeRegion.{FreeRegion}
-use Rattle.tables.specs.declared.Choice.{Choice}
-use Rattle.tables.specs.declared.Choice.TheVariants.{At, Nothing}
-
--- the place of the best
-unfoldable pub place_of : Best → Choice
-place_of b = cond b.found (At b.at) Nothing
 
 -- at least `n` bytes, on stream `s`
 abbrev pub suits : ℕ → ℕ → FreeRegion → Bool

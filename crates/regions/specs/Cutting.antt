@@ -6,7 +6,7 @@ use Rattle.tables.specs.Values.{free_of, empty_region}
 use Rattle.tables.specs.Kept.{KeptFree}
 use Rattle.tables.specs.InsertFree.{from, upto, without_free, put_rest}
 use Rattle.tables.specs.declared.FreeRegion.{FreeRegion}
-use Rattle.tables.specs.declared.FreeRegions.{FreeRegions}
+use Rattle.tables.specs.Values.{FreeRegions}
 
 -- the region at a place
 abbrev pub region_at : FreeRegions → ℕ → FreeRegion

@@ -7,32 +7,18 @@ use tables::{FreeRegion, FreeRegions};
 use words::Address;
 
 // The first `taken` bytes of the region at a place are taken; what they leave stays free. No region starts within another: the rest's place is the region's.
-pub fn cut_region(t: FreeRegions, at: usize, taken: u64) -> FreeRegions
-    requires { Cuttable t at taken }
-    ensures { result ≡ pack_free (cut_free taken (region_at t at) (free_of t)) }
+pub fn cut_region(free: &mut FreeRegions, at: usize, taken: u64)
+    requires { Cuttable free.old at taken }
+    ensures { free.new ≡ pack_free (cut_free taken (region_at free.old at) (free_of free.old)) }
 {
-    let mut out = t;
-    let r = out.cells[at];
+    let r = free.cells[at];
     if taken < r.size {
-        let id = r.id;
-        out.cells[at] = FreeRegion {
+        free.cells[at] = FreeRegion {
             start: Address(r.start.0 + taken),
             size: r.size - taken,
-            stream: r.stream,
-            id,
+            ..r
         };
-        return out;
+    } else {
+        free.remove_at(at);
     }
-    // nothing is left: those behind move down, and the cell that falls free is cleared
-    let last = out.count - 1;
-    let mut i = at;
-    while i < last {
-        let j = i + 1;
-        let moved = out.cells[j];
-        out.cells[i] = moved;
-        i = j;
-    }
-    out.cells[last] = FreeRegion::EMPTY;
-    out.count = last;
-    out
 }

@@ -1,8 +1,6 @@
--- What is left of a number when another is taken off it.
-use Rattle.std.specs.Prelude.{◌≡◌, ℕ, ◌+◌, ◌<◌}
-use Rattle.small_buffers.specs.declared.Left.{Left}
-use Rattle.small_buffers.specs.declared.Left.TheVariants.{Bytes, TooFew}
+-- What is left of a number when another is taken off it; nothing, where it is too small.
+use Rattle.std.specs.Prelude.{◌≡◌, ℕ, ◌+◌, ◌<◌, Option, Some, None}
 
-abbrev pub TakenOff : ℕ → ℕ → Left → Type 0
-TakenOff bytes sizes (Bytes left) = left + sizes ≡ bytes
-TakenOff bytes sizes TooFew = bytes < sizes
+abbrev pub TakenOff : ℕ → ℕ → Option ℕ → Type 0
+TakenOff bytes sizes (Some left) = left + sizes ≡ bytes
+TakenOff bytes sizes None = bytes < sizes

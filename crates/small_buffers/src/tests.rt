@@ -1,47 +1,28 @@
 // docs/RULES.md 12.6: what the layer tests of itself, of any value: counts, cells and sums of sizes are whatever they are.
-ghost use Rattle.std.specs.Prelude.{◌≡◌, ◌&&◌, not, map, ◌+◌, ◌≤◌, ltb, leb, eqb, drop};
+ghost use Rattle.std.specs.Prelude.{◌≡◌, ◌&&◌, not, map, ◌+◌, ◌≤◌, ltb, leb, eqb};
 ghost use Rattle.lists.specs.Tests.{every, distinct};
 ghost use Rattle.lists.specs.Walks.{sum};
 ghost use Rattle.tables.specs.Values.{live_of};
 ghost use Rattle.manager_rules.specs.Values.{SMALLS, small_of};
-ghost use Rattle.manager_rules.specs.WellFormed.{own_kept};
+ghost use Rattle.manager_rules.specs.WellFormed.{own_sound, own_kept};
 ghost use Rattle.small_buffers.specs.Promises.{TakenOff};
 
-use crate::Left;
-use manager_rules::{Manager, SmallBuffers};
-use tables::{LiveBuffers, Pool};
+use manager_rules::{Manager, SmallBuffer};
+use tables::LiveBuffer;
 
-// No buffer from a place on is at this pointer.
-fn is_free_from(t: SmallBuffers, from: usize, pointer: u64) -> bool
-    requires { t.count ≤ SMALLS }
-    ensures { result ≡ every (λ b. not (eqb pointer b.pointer)) (drop from (small_of t)) }
+// None of these buffers is at this pointer.
+fn is_free(pointer: u64, small: &[SmallBuffer]) -> bool
+    ensures { result ≡ every (λ b. not (eqb pointer b.pointer)) small.now }
 {
-    let count = t.count;
-    let mut i = from;
-    while i < count {
-        let b = t.cells[i];
-        if pointer == b.pointer {
-            return false;
-        }
-        i += 1;
-    }
-    true
+    small.iter().all(|b| pointer != b.pointer)
 }
 
 // No pointer is 0, and none is held twice.
-fn pointers_good(t: SmallBuffers) -> bool
-    requires { t.count ≤ SMALLS }
-    ensures { result ≡ (every (λ b. not (eqb b.pointer 0)) (small_of t) && distinct (map (λ b. b.pointer) (small_of t))) }
+fn pointers_good(small: &[SmallBuffer]) -> bool
+    ensures { result ≡ (every (λ b. not (eqb b.pointer 0)) small.now && distinct (map (λ b. b.pointer) small.now)) }
 {
-    let count = t.count;
-    let mut i: usize = 0;
-    while i < count {
-        let b = t.cells[i];
-        if b.pointer == 0 {
-            return false;
-        }
-        i += 1;
-        if !is_free_from(t, i, b.pointer) {
+    for (at, b) in small.iter().enumerate() {
+        if b.pointer == 0 || !is_free(b.pointer, &small[at + 1..]) {
             return false;
         }
     }
@@ -49,97 +30,45 @@ fn pointers_good(t: SmallBuffers) -> bool
 }
 
 // Each has at least a byte, and fewer than a page.
-fn sizes_small(t: SmallBuffers, page: u64) -> bool
-    requires { t.count ≤ SMALLS }
-    ensures { result ≡ every (λ b. leb 1 b.size && ltb b.size page) (small_of t) }
+fn sizes_small(small: &[SmallBuffer], page: u64) -> bool
+    ensures { result ≡ every (λ b. leb 1 b.size && ltb b.size page) small.now }
 {
-    let count = t.count;
-    let mut i: usize = 0;
-    while i < count {
-        let b = t.cells[i];
-        if b.size == 0 {
-            return false;
-        }
-        if page <= b.size {
-            return false;
-        }
-        i += 1;
-    }
-    true
+    small.iter().all(|b| 1 <= b.size && b.size < page)
 }
 
-// The sizes are taken off one by one: their sum could be beyond 2^64.
-fn without_live(bytes: u64, t: LiveBuffers) -> Left
-    ensures { TakenOff bytes (sum (λ b. b.size) (live_of t)) result }
+// What is left of a number of bytes without all of these buffers. Their sizes are taken off one by one: the sum could be beyond the largest number.
+fn left_of(bytes: u64, small: &[SmallBuffer], live: &[LiveBuffer]) -> Option<u64>
+    ensures { TakenOff bytes (sum (λ b. b.size) small.now + sum (λ b. b.size) live.now) result }
 {
-    let mut left = bytes;
-    let mut i: usize = 0;
-    while i < Pool::SPANS {
-        if t.count <= i {
-            return Left::Bytes(left);
-        }
-        let b = t.cells[i];
-        if left < b.size {
-            return Left::TooFew;
-        }
-        left -= b.size;
-        i += 1;
-    }
-    Left::Bytes(left)
+    let sizes = small.iter().map(|b| b.size);
+    let mut all = sizes.chain(live.iter().map(|b| b.size));
+    all.try_fold(bytes, |left, size| left.checked_sub(size))
 }
 
-fn without_smalls(bytes: u64, t: SmallBuffers) -> Left
-    requires { t.count ≤ SMALLS }
-    ensures { TakenOff bytes (sum (λ b. b.size) (small_of t)) result }
+// What is counted is what is held. The count of live buffers may be beyond their cells here.
+fn is_current_held(m: &Manager) -> bool
+    requires { m.now.small.count ≤ SMALLS }
+    ensures { result ≡ eqb m.now.current (sum (λ b. b.size) (small_of m.now.small) + sum (λ b. b.size) (live_of m.now.pool.live)) }
 {
-    let count = t.count;
-    let mut left = bytes;
-    let mut i: usize = 0;
-    while i < count {
-        let b = t.cells[i];
-        if left < b.size {
-            return Left::TooFew;
-        }
-        left -= b.size;
-        i += 1;
-    }
-    Left::Bytes(left)
+    let cells = &m.pool.live.cells[..];
+    let live = &cells[..m.pool.live.count.min(cells.len())];
+    left_of(m.current, m.small.entries(), live) == Some(0)
 }
 
-// The sizes of both tables come to this number.
-fn is_held(bytes: u64, small: SmallBuffers, live: LiveBuffers) -> bool
-    requires { small.count ≤ SMALLS }
-    ensures { result ≡ eqb bytes (sum (λ b. b.size) (small_of small) + sum (λ b. b.size) (live_of live)) }
+fn own_sound(m: &Manager) -> bool
+    requires { m.now.small.count ≤ SMALLS }
+    ensures { result ≡ own_sound m.now }
 {
-    let rest = without_smalls(bytes, small);
-    let Left::Bytes(left) = rest else {
-        return false;
-    };
-    let last = without_live(left, live);
-    let Left::Bytes(nothing) = last else {
-        return false;
-    };
-    nothing == 0
+    let small = m.small.entries();
+    pointers_good(small)
+        && sizes_small(small, m.pool.page)
+        && is_current_held(m)
+        && m.current <= m.highest
 }
 
 // Of a stopped layer only the count is tested.
-pub fn own_kept(m: Manager) -> bool
-    ensures { result ≡ own_kept m }
+pub fn own_kept(m: &Manager) -> bool
+    ensures { result ≡ own_kept m.now }
 {
-    if Manager::SMALLS < m.small.count {
-        return false;
-    }
-    if m.pool.state == Manager::STOPPED {
-        return true;
-    }
-    if !pointers_good(m.small) {
-        return false;
-    }
-    if !sizes_small(m.small, m.pool.page) {
-        return false;
-    }
-    if !is_held(m.current, m.small, m.pool.live) {
-        return false;
-    }
-    m.current <= m.highest
+    m.small.count <= Manager::SMALLS && (m.pool.state == Manager::STOPPED || own_sound(m))
 }

@@ -2,11 +2,9 @@
 -- that range is a hole. The body reads the zombie from its cell, the rule from its list.
 use mathlib.Core.Path.{◌≡◌, ap, ◌∙◌}
 use mathlib.Core.List.{List}
-use Prim.Native.Nat.{ℕ, ◌+◌, ◌-◌, ◌<◌}
+use Prim.Native.Nat.{ℕ, ◌-◌, ◌<◌}
 use native.Mathlib.Omega.{arith}
 use lib.ListN.{length, get_or}
-use Rattle.words.specs.Words.{line}
-use Rattle.words.specs.Answers.{code_of}
 use Rattle.words.specs.declared.Word.TheVariants.{Unmap}
 use Rattle.lists.specs.Places.{swap_out}
 use Rattle.lists.proofs.Swap.{length-swap_out}
@@ -14,14 +12,16 @@ use Rattle.tables.specs.Values.{Tables, holes_of, pack_holes, zombies_of, pack_z
 use Rattle.tables.specs.Kept.{KeptZombies}
 use Rattle.tables.specs.InsertHole.{insert_hole}
 use Rattle.tables.specs.Steps.{Ending, on, ends}
-use Rattle.tables.specs.Driver.{driver, try, unmap}
+use Rattle.tables.specs.Driver.{try, unmap}
 use Rattle.tables.specs.Cleanup.{clean}
-use Rattle.tables.specs.declared.Holes.{Holes}
+use Rattle.tables.specs.Values.{Holes}
 use Rattle.tables.specs.declared.Outcome.{Outcome}
 use Rattle.tables.specs.declared.Zombie.{Zombie}
-use Rattle.tables.specs.declared.Zombies.{Zombies}
+use Rattle.tables.specs.Values.{Zombies}
 use Rattle.tables.proofs.Packs.{holes_pack, zombies-count, zombies_pack, zombies_cell}
-use Rattle.driving.specs.Ran.{Ran, Drove, point}
+use Rattle.driving.specs.Ran.{Ran, stands}
+use Rattle.driving.specs.Promises.{telling}
+use Rattle.driving.specs.declared.Driver.{Driver}
 use Rattle.step_cleanup.specs.Promises.{cleaning, Cleanable}
 use Rattle.step_cleanup.proofs.Turns.{clean-on, clean-stop}
 use Rattle.step_cleanup.proofs.Sounds.{kept_out, cleanable-hole}
@@ -49,19 +49,19 @@ module _ {z left : Zombies} {h : Holes} {i : ℕ} (c : Cleanable z h) (b : i < z
   cleanable-left put = rw (out, put, ← zombies_cell z i b) (cleanable-hole z h i c b)
 
   -- the unmap ended as `e`
-  module _ {xs l m : List ℕ} {k : ℕ} {e : Ending (Unit {0})}
-      (tried : Drove (try (driver (λ x. line Unmap (cell z i).start.0 (cell z i).size (code_of x)))) xs k l e m) (t : Tables) where
+  module _ {xs : List ℕ} (d d' : Driver) {e : Ending (Unit {0})}
+      (tried : (t : Tables) → Ran (try (telling Unmap (cell z i).start.0 (cell z i).size)) xs (stands d t) e (stands d' t)) (t : Tables) where
     unmapped :
         let u = with_zombies (swap_out i (zombies_of z)) (cleaning z h t) in
         let y = get_or (zombies_of z) i empty_zombie in
-        Ran (try (unmap y.start.0 y.size)) xs (point k u l) e (point (k + 1) u m)
+        Ran (try (unmap y.start.0 y.size)) xs (stands d u) e (stands d' u)
     unfolding unmap
     unmapped = rw (← zombies_cell z i b) at (tried (with_zombies (swap_out i (zombies_of z)) (cleaning z h t)))
 
     pub cleans-stop : {o : Outcome} → e ≡ ends o →
-        Ran (clean i (get_or (zombies_of z) i empty_zombie)) xs (point k (cleaning z h t) l) e (point (k + 1) (cleaning left h t) m)
-    cleans-stop p = rw left_is (clean-stop i _ unmapped p)
+        Ran (clean i (get_or (zombies_of z) i empty_zombie)) xs (stands d (cleaning z h t)) (ends o) (stands d' (cleaning left h t))
+    cleans-stop p = rw left_is (clean-stop i _ (rw p at unmapped))
 
     pub cleans-on : {hs : Holes} → hs ≡ returned h (cell z i) → e ≡ on tt →
-        Ran (clean i (get_or (zombies_of z) i empty_zombie)) xs (point k (cleaning z h t) l) (on tt) (point (k + 1) (cleaning left hs t) m)
-    cleans-on put p = rw (left_is, put, ← zombies_cell z i b, holes_pack) (clean-on i _ unmapped p)
+        Ran (clean i (get_or (zombies_of z) i empty_zombie)) xs (stands d (cleaning z h t)) (on tt) (stands d' (cleaning left hs t))
+    cleans-on put p = rw (left_is, put, ← zombies_cell z i b, holes_pack) (clean-on i _ (rw p at unmapped))

@@ -9,9 +9,9 @@ use Rattle.tables.specs.Bounds.{END, HOLES}
 use Rattle.tables.specs.Values.{holes_of, pack_holes, zombies_of, pack_zombies, with_zombies, empty_zombie}
 use Rattle.tables.specs.Kept.{KeptZombies}
 use Rattle.tables.specs.InsertHole.{insert_hole}
-use Rattle.tables.specs.declared.Holes.{Holes}
+use Rattle.tables.specs.Values.{Holes}
 use Rattle.tables.specs.declared.Zombie.{Zombie}
-use Rattle.tables.specs.declared.Zombies.{Zombies}
+use Rattle.tables.specs.Values.{Zombies}
 use Rattle.tables.proofs.Packs.{holes-count, holes-kept, holes_pack, zombies-count, zombies-kept, zombies_pack}
 use Rattle.keeping.specs.Cover.{within}
 use Rattle.keeping.specs.Sound.{none, WholeRange, Sound}

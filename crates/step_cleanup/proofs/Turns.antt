@@ -1,6 +1,5 @@
 -- One turn of cleanup's walk, by how it goes, and one zombie cleaned: each is its steps in order.
-use mathlib.Core.Path.{◌≡◌}
-use mathlib.Core.Bool.{Bool, true, false}
+use mathlib.Core.Bool.{true, false}
 use mathlib.Core.List.{List}
 use Prim.Native.Nat.{ℕ, ◌+◌, ◌-◌, ◌<◌}
 use lib.ListN.{get_or}
@@ -16,33 +15,33 @@ use Rattle.tables.specs.declared.Zombie.{Zombie}
 use Rattle.driving.specs.Ran.{Ran, Point, point}
 use Rattle.driving.proofs.Ran.{next, stop, looked, changed}
 
--- the asking ended as `a`
-module _ {xs : List ℕ} {s u : Point} {a : Ending Bool} (n i : ℕ) (h : 0 < n)
-    (asked : Ran (is_complete (get_or s.tables.zombies i empty_zombie).id.0) xs s a u) where
-  -- no answer is left for it
-  pub walk_out : {o : Outcome} → a ≡ ends o → Ran (walk n i) xs s (ends o) u
-  walk_out p = rw (one_more n h) (next _ looked (stop _ (rw p at asked)))
+module _ {xs : List ℕ} {s u : Point} (n i : ℕ) (h : 0 < n) where
+  -- no answer is left for the asking
+  pub walk_out : {o : Outcome} → Ran (is_complete (get_or s.tables.zombies i empty_zombie).id.0) xs s (ends o) u → Ran (walk n i) xs s (ends o) u
+  walk_out asked = rw (one_more n h) (next _ looked (stop _ asked))
 
   -- not complete
-  pub walk-on : {e : Ending (Unit {0})} {w : Point} → a ≡ on false → Ran (walk (n - 1) (i + 1)) xs u e w → Ran (walk n i) xs s e w
-  walk-on p r = rw (one_more n h) (next _ looked (next _ (rw p at asked) r))
+  pub walk-on : {e : Ending (Unit {0})} {w : Point} → Ran (is_complete (get_or s.tables.zombies i empty_zombie).id.0) xs s (on false) u →
+      Ran (walk (n - 1) (i + 1)) xs u e w → Ran (walk n i) xs s e w
+  walk-on asked r = rw (one_more n h) (next _ looked (next _ asked r))
 
-  -- complete, and cleaned, which ended as `f`
-  module _ {f : Ending (Unit {0})} {v : Point} (p : a ≡ on true) (cleaned : Ran (clean i (get_or s.tables.zombies i empty_zombie)) xs u f v) where
-    pub walk-clean : {e : Ending (Unit {0})} {w : Point} → f ≡ on tt → Ran (walk (n - 1) i) xs v e w → Ran (walk n i) xs s e w
-    walk-clean q r = rw (one_more n h) (next _ looked (next _ (rw p at asked) (next _ (rw q at cleaned) r)))
+  -- complete, and cleaned, which went on or ended
+  module _ {v : Point} (asked : Ran (is_complete (get_or s.tables.zombies i empty_zombie).id.0) xs s (on true) u) where
+    pub walk-clean : {e : Ending (Unit {0})} {w : Point} → Ran (clean i (get_or s.tables.zombies i empty_zombie)) xs u (on tt) v →
+        Ran (walk (n - 1) i) xs v e w → Ran (walk n i) xs s e w
+    walk-clean cleaned r = rw (one_more n h) (next _ looked (next _ asked (next _ cleaned r)))
 
-    pub walk-stop : {o : Outcome} → f ≡ ends o → Ran (walk n i) xs s f v
-    walk-stop q = rw (one_more n h, q) (next _ looked (next _ (rw p at asked) (stop _ (rw q at cleaned))))
+    pub walk-stop : {o : Outcome} → Ran (clean i (get_or s.tables.zombies i empty_zombie)) xs u (ends o) v → Ran (walk n i) xs s (ends o) v
+    walk-stop cleaned = rw (one_more n h) (next _ looked (next _ asked (stop _ cleaned)))
 
--- the unmap went on, or its answer was missing: `e` is how it ended
-module _ {xs : List ℕ} {s v : Point} {e : Ending (Unit {0})} (i : ℕ) (z : Zombie)
-    (tried : Ran (try (unmap z.start.0 z.size)) xs (point s.made (with_zombies (swap_out i s.tables.zombies) s.tables) s.log) e v) where
-  pub clean-on : e ≡ on tt →
+-- the unmap went on, or its answer was missing
+module _ {xs : List ℕ} {s v : Point} (i : ℕ) (z : Zombie) where
+  pub clean-on : Ran (try (unmap z.start.0 z.size)) xs (point s.made (with_zombies (swap_out i s.tables.zombies) s.tables) s.log) (on tt) v →
       Ran (clean i z) xs s (on tt) (point v.made (with_holes (insert_hole z.start.0 z.size v.tables.holes) v.tables) v.log)
   unfolding clean
-  clean-on h = next _ (changed _) (next _ (rw h at tried) (changed _))
+  clean-on tried = next _ (changed _) (next _ tried (changed _))
 
-  pub clean-stop : {o : Outcome} → e ≡ ends o → Ran (clean i z) xs s e v
+  pub clean-stop : {o : Outcome} → Ran (try (unmap z.start.0 z.size)) xs (point s.made (with_zombies (swap_out i s.tables.zombies) s.tables) s.log) (ends o) v →
+      Ran (clean i z) xs s (ends o) v
   unfolding clean
-  clean-stop h = rw h (next _ (changed _) (stop _ (rw h at tried)))
+  clean-stop tried = next _ (changed _) (stop _ tried)

@@ -19,6 +19,7 @@ use Rattle.tables.specs.Steps.{Ending, on, ends, Step, ◌>>=◌, give, tables}
 use Rattle.tables.specs.Driver.{heard, driver}
 use Rattle.tables.specs.Close.{failures}
 use Rattle.tables.specs.declared.Outcome.{Outcome}
+use Rattle.tables.specs.declared.Outcome.TheVariants.{AnswersRanOut}
 use Rattle.driving.specs.Ran.{Point, Ran}
 use Rattle.driving.proofs.Ran as ran
 use Rattle.step_close.specs.Counting.{RanCounting}
@@ -67,9 +68,34 @@ one_line true r e = rw e
 one_line false r e = rw e
 
 -- A driver call: its line is a failed one where its answer is a failure.
-pub told : {xs : List ℕ} {s u : Point} {f g : ℕ} (w : Word) (a b : ℕ) (x : Answer) → Ran (driver (λ y. line w a b (code_of y))) xs s (heard x) u →
-    g ≡ f + cond (failed x) 1 0 → RanCounting (driver (λ y. line w a b (code_of y))) xs s f (heard x) u g
-told {xs} {s} {f = f} w a b x r e =
+pub told : {xs : List ℕ} {s u : Point} {f g : ℕ} (w : Word) (a b : ℕ) (e : Ending Answer) → Ran (driver (λ y. line w a b (code_of y))) xs s e u →
+    g ≡ f + cond (fails e) 1 0 → RanCounting (driver (λ y. line w a b (code_of y))) xs s f e u g
+told {xs} {s} {f = f} w a b e r h =
     let y = lent xs s.made in
-    let same : failed y ≡ failed x = sym (fails-heard y) ∙ ap fails (sym (ran.ending-is r)) ∙ fails-heard x in
-    record { ran = r; counted = e ∙ ap (λ n. f + n) (sym (one_line (failed x) (line w a b (code_of y)) (sym (lent-failed xs s.made) ∙ same))) }
+    let same : failed y ≡ fails e = sym (fails-heard y) ∙ ap fails (sym (ran.ending-is r)) in
+    record { ran = r; counted = h ∙ ap (λ n. f + n) (sym (one_line (fails e) (line w a b (code_of y)) (sym (lent-failed xs s.made) ∙ same))) }
+
+-- An end is by 17.
+pub ran_out : {xs : List ℕ} {s u : Point} (w : Word) (a b : ℕ) {o : Outcome} → Ran (driver (λ y. line w a b (code_of y))) xs s (ends o) u → o ≡ AnswersRanOut
+ran_out {xs} {s} w a b {o = o} r = at_end (lent xs s.made) (ran.ending-is r)
+  where
+    outcome : Ending Answer → Outcome
+    outcome (on x) = AnswersRanOut
+    outcome (ends q) = q
+
+    at_end : (y : Answer) → ends o ≡ heard y → o ≡ AnswersRanOut
+    at_end (Done v) e = ap outcome e
+    at_end (Failed c) e = ap outcome e
+    at_end Missing e = ap outcome e
+
+-- it ended with one outcome
+pub ends-once : {A : Type 0} {o q : Outcome} → ◌≡◌ {A = Ending A} (ends o) (ends q) → q ≡ o
+ends-once {A} {o} e = ap outcome (sym e)
+  where
+    outcome : Ending A → Outcome
+    outcome (on x) = o
+    outcome (ends q) = q
+
+-- what went on did not end
+pub not-ends : {A B : Type 0} {a : A} {o : Outcome} → ◌≡◌ {A = Ending A} (on a) (ends o) → B
+not-ends e = let z : ◌≡◌ {A = ℕ} 0 1 = cc in absurd (omega arith)

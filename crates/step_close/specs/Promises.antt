@@ -1,10 +1,10 @@
 -- What the code of a close needs, and what it promises.
-use Rattle.std.specs.Prelude.{◌≡◌, List, ℕ, ◌+◌, ◌*◌, ◌≤◌}
+use Rattle.std.specs.Prelude.{◌≡◌, Result, ℕ, ◌+◌, ◌*◌, ◌≤◌}
 use Rattle.words.specs.declared.Address.{Address}
 use Rattle.tables.specs.Bounds.{PAGES, ROOTS, ZOMBIES}
 use Rattle.tables.specs.Values.{Tables, tables_of}
 use Rattle.tables.specs.Kept.{KeptZombies, KeptPages, KeptRoots}
-use Rattle.tables.specs.Steps.{Act, ◌>>◌}
+use Rattle.tables.specs.Steps.{Act, ends, ◌>>◌}
 use Rattle.tables.specs.Driver.{try, unmap, release, giveback}
 use Rattle.tables.specs.NewPages.{at}
 use Rattle.tables.specs.Close.{close_steps}
@@ -13,11 +13,10 @@ use Rattle.tables.specs.declared.Page.{Page}
 use Rattle.tables.specs.declared.Pool.{Pool}
 use Rattle.tables.specs.declared.Outcome.{Outcome}
 use Rattle.tables.specs.declared.Outcome.TheVariants.{AnswersRanOut}
-use Rattle.driving.specs.Ran.{point}
+use Rattle.driving.specs.Ran.{Lent, stands}
 use Rattle.driving.specs.Endings.{ending}
-use Rattle.driving.specs.declared.Ended.TheVariants.{Ends}
+use Rattle.driving.specs.declared.Driver.{Driver}
 use Rattle.step_close.specs.Counting.{RanCounting}
-use Rattle.step_close.specs.declared.Closing.{Closing}
 
 -- The steps of a close, for one entry of each table.
 abbrev pub unmap_zombie : Zombie → Act
@@ -30,11 +29,12 @@ abbrev pub give_back : ℕ → Address → Act
 give_back va a = try (giveback a.0 va)
 
 -- A part of a close, of at most `n` driver calls: it leaves the tables as they are, whatever they are, and only 17 ends it.
-pub record Counts (act : Act) (n : ℕ) (xs : List ℕ) (f k : ℕ) (l : List ℕ) (r : Closing) (m : List ℕ) : Type 0 where
-  pub ran : (t : Tables) → RanCounting act xs (point k t l) f (ending r.ended) (point r.made t m) r.failed
-  pub only : (o : Outcome) → r.ended ≡ Ends o → o ≡ AnswersRanOut
-  pub most : r.made ≤ k + n
-  pub few : r.failed ≤ r.made
+pub record Counts (act : Act) (n : ℕ) (d : Driver) (f : ℕ) (r : Result (Unit {0}) Outcome) (d' : Driver) (g : ℕ) : Type 0 where
+  pub lent : Lent d d'
+  pub ran : (t : Tables) → RanCounting act d.answers.now (stands d t) f (ending r) (stands d' t) g
+  pub only : (o : Outcome) → ending r ≡ ends o → o ≡ AnswersRanOut
+  pub most : d'.made ≤ d.made + n
+  pub few : g ≤ d'.made
 
 -- The tables that a close reads are kept; nothing is asked of the numbers in them.
 pub record Closable (p : Pool) : Type 0 where
@@ -47,7 +47,8 @@ abbrev pub close_calls : ℕ
 close_calls = 1 + ZOMBIES + 2 * PAGES + ROOTS
 
 -- The whole close: at every end the failed lines are counted.
-pub record Closes (xs : List ℕ) (p : Pool) (l : List ℕ) (r : Closing) (m : List ℕ) : Type 0 where
-  pub ran : RanCounting close_steps xs (point 0 (tables_of p) l) 0 (ending r.ended) (point r.made (tables_of p) m) r.failed
-  pub only : (o : Outcome) → r.ended ≡ Ends o → o ≡ AnswersRanOut
-  pub most : r.made ≤ close_calls
+pub record Closes (d : Driver) (f : ℕ) (p : Pool) (r : Result (Unit {0}) Outcome) (d' : Driver) (g : ℕ) : Type 0 where
+  pub lent : Lent d d'
+  pub ran : RanCounting close_steps d.answers.now (stands d (tables_of p)) f (ending r) (stands d' (tables_of p)) g
+  pub only : (o : Outcome) → ending r ≡ ends o → o ≡ AnswersRanOut
+  pub most : d'.made ≤ d.made + close_calls

@@ -4,23 +4,19 @@ use mathlib.Core.Bool.{Bool, true, false, cond}
 use mathlib.Core.List.{List, [], ◌∷◌}
 use mathlib.Core.Option.{Option, some}
 use Prim.Native.Nat.{ℕ, ◌+◌, ◌≤◌, ◌<◌}
-use native.Mathlib.Omega.{arith}
 use borrow.Author.Tests.{le-leb, lt-leb}
-use lib.ListN.{get_or, drop}
+use lib.ListN.{length, get_or, drop}
+use Rattle.std.specs.Prelude.{Option as Found}
 use Rattle.lists.specs.Scan.{better, found}
 use Rattle.lists.specs.declared.Best.{Best}
-use Rattle.lists.proofs.Cells.{turn, ends as none_after}
-use Rattle.lists.proofs.Filled.{filled-length}
-use Rattle.lists.proofs.Least.{lesser, lesser-none, lesser_assoc, Marks, marks-better, found-better}
-use Rattle.tables.specs.Values.{free_of, empty_region}
-use Rattle.tables.specs.Kept.{KeptFree}
+use Rattle.lists.proofs.Cells.{turn-all}
+use Rattle.lists.proofs.Least.{lesser, lesser-none, lesser_assoc, Marks, found-better}
+use Rattle.tables.specs.Values.{empty_region}
 use Rattle.tables.specs.Steps.{Ending, on, ends, Step, ◌>>=◌, give}
 use Rattle.tables.specs.Driver.{is_complete}
 use Rattle.tables.specs.Fit.{candidates, ask_all, smallest}
 use Rattle.tables.specs.declared.FreeRegion.{FreeRegion}
-use Rattle.tables.specs.declared.FreeRegions.{FreeRegions}
 use Rattle.tables.specs.declared.Outcome.{Outcome}
-use Rattle.tables.proofs.Packs.{free_cell}
 use Rattle.driving.specs.Ran.{Ran, Point}
 use Rattle.driving.proofs.Ran.{next, stop, gave, ran-once}
 use Rattle.step_fit.proofs.Runs.{runs}
@@ -58,52 +54,39 @@ module _ (b : Option FreeRegion) (x : FreeRegion) (l : List FreeRegion) where
             let same = ran-once r (stop _ ran) in
             rw (same.0, same.1) (stop _ (next _ asked (stop _ ran)))
 
--- The turn at place `i` of a table, of the region in its cell.
-module _ (f : FreeRegions) {i : ℕ} (k : KeptFree f) (h : i < f.count) where
+-- The turn at place `i` of a list, of the region there.
+module _ (l : List FreeRegion) {i : ℕ} (h : i < length l) where
   abbrev it : FreeRegion
-  it = get_or f.cells i empty_region
+  it = get_or l i empty_region
 
-  here : get_or (free_of f) i empty_region ≡ get_or f.cells i empty_region
-  here = free_cell f i h
+  left : drop i l ≡ get_or l i empty_region ∷ drop (i + 1) l
+  left = turn-all l i empty_region h
 
-  left : drop i (free_of f) ≡ get_or f.cells i empty_region ∷ drop (i + 1) (free_of f)
-  unfolding free_of
-  left = turn f.count f.cells i empty_region h (omega (arith, filled-length k, k.most))
-
-  pub turn_marks : (b : Best) → Marks (λ q. q.size) empty_region (free_of f) i b →
-      Marks (λ q. q.size) empty_region (free_of f) (i + 1) (better i (get_or f.cells i empty_region).size b)
-  turn_marks b m = rw here at (marks-better (λ q. q.size) empty_region (free_of f) i b m)
-
-  module _ (n : ℕ) (b : Best) {xs : List ℕ} {s : Point} where
+  module _ (n : ℕ) (b : Found Best) {xs : List ℕ} {s : Point} where
     -- it is no candidate
-    pub turn_small : {e : Ending (Option FreeRegion)} {u : Point} → (get_or f.cells i empty_region).size < n →
-        Ran (searching (found empty_region (free_of f) b) (candidates n (drop (i + 1) (free_of f)))) xs s e u →
-        Ran (searching (found empty_region (free_of f) b) (candidates n (drop i (free_of f)))) xs s e u
+    pub turn_small : {e : Ending (Option FreeRegion)} {u : Point} → (get_or l i empty_region).size < n →
+        Ran (searching (found empty_region l b) (candidates n (drop (i + 1) l))) xs s e u →
+        Ran (searching (found empty_region l b) (candidates n (drop i l))) xs s e u
     turn_small less r = rw (left, lt-leb n it.size less) r
 
     -- it is one, and was asked after
-    module _ {v : Point} (large : n ≤ (get_or f.cells i empty_region).size) where
-      pub turn_out : {o : Outcome} → Ran (is_complete (get_or f.cells i empty_region).id.0) xs s (ends o) v →
-          Ran (searching (found empty_region (free_of f) b) (candidates n (drop i (free_of f)))) xs s (ends o) v
-      turn_out asked = rw (left, le-leb n it.size large) (search-stop (found empty_region (free_of f) b) it (candidates n (drop (i + 1) (free_of f))) asked)
+    module _ {v : Point} (large : n ≤ (get_or l i empty_region).size) where
+      pub turn_out : {o : Outcome} → Ran (is_complete (get_or l i empty_region).id.0) xs s (ends o) v →
+          Ran (searching (found empty_region l b) (candidates n (drop i l))) xs s (ends o) v
+      turn_out asked = rw (left, le-leb n it.size large) (search-stop (found empty_region l b) it (candidates n (drop (i + 1) l)) asked)
 
-      pub turn-complete : {e : Ending (Option FreeRegion)} {u : Point} → Marks (λ q. q.size) empty_region (free_of f) i b →
-          Ran (is_complete (get_or f.cells i empty_region).id.0) xs s (on true) v →
-          Ran (searching (found empty_region (free_of f) (better i (get_or f.cells i empty_region).size b))
-          (candidates n (drop (i + 1) (free_of f)))) xs v e u →
-          Ran (searching (found empty_region (free_of f) b) (candidates n (drop i (free_of f)))) xs s e u
+      pub turn-complete : {e : Ending (Option FreeRegion)} {u : Point} → Marks (λ q. q.size) empty_region l i b →
+          Ran (is_complete (get_or l i empty_region).id.0) xs s (on true) v →
+          Ran (searching (found empty_region l (better i (get_or l i empty_region).size b)) (candidates n (drop (i + 1) l))) xs v e u →
+          Ran (searching (found empty_region l b) (candidates n (drop i l))) xs s e u
       turn-complete m asked r =
-          let lower = rw here at (found-better (λ q. q.size) empty_region (free_of f) i b m) in
+          let lower = found-better (λ q. q.size) empty_region l i b m in
           rw (left, le-leb n it.size large)
-          (search-next (found empty_region (free_of f) b) it (candidates n (drop (i + 1) (free_of f))) true asked (rw lower at r))
+          (search-next (found empty_region l b) it (candidates n (drop (i + 1) l)) true asked (rw lower at r))
 
       pub turn-not_yet : {e : Ending (Option FreeRegion)} {u : Point} →
-          Ran (is_complete (get_or f.cells i empty_region).id.0) xs s (on false) v →
-          Ran (searching (found empty_region (free_of f) b) (candidates n (drop (i + 1) (free_of f)))) xs v e u →
-          Ran (searching (found empty_region (free_of f) b) (candidates n (drop i (free_of f)))) xs s e u
+          Ran (is_complete (get_or l i empty_region).id.0) xs s (on false) v →
+          Ran (searching (found empty_region l b) (candidates n (drop (i + 1) l))) xs v e u →
+          Ran (searching (found empty_region l b) (candidates n (drop i l))) xs s e u
       turn-not_yet asked r =
-          rw (left, le-leb n it.size large) (search-next (found empty_region (free_of f) b) it (candidates n (drop (i + 1) (free_of f))) false asked r)
-
-pub none_left : (f : FreeRegions) (i : ℕ) → f.count ≤ i → drop i (free_of f) ≡ []
-unfolding free_of
-none_left f i h = none_after f.count f.cells i h
+          rw (left, le-leb n it.size large) (search-next (found empty_region l b) it (candidates n (drop (i + 1) l)) false asked r)

@@ -10,7 +10,7 @@ use lib.Dec.{eqb}
 use lib.ListN.{length, get_or, length-map, get_or-map}
 use lib.Seq.{drop-cons}
 use Rattle.tables.specs.Values.{with_free, empty_region}
-use Rattle.tables.specs.Steps.{Ending, on}
+use Rattle.tables.specs.Steps.{Ending, on, ends}
 use Rattle.tables.specs.InsertFree.{from}
 use Rattle.tables.specs.Pull.{own_of}
 use Rattle.tables.specs.Fit.{candidates, smallest, ask_all, on_stream, take_over, or_other, fit}
@@ -18,29 +18,25 @@ use Rattle.tables.specs.declared.FreeRegion.{FreeRegion}
 use Rattle.tables.specs.declared.Outcome.{Outcome}
 use Rattle.regions.specs.Choosing.{taken_over}
 use Rattle.driving.specs.Ran.{Ran, Point, point}
-use Rattle.driving.specs.declared.Ended.{Ended}
-use Rattle.driving.specs.declared.Ended.TheVariants.{On, Ends}
 use Rattle.driving.proofs.Ran.{next, gave, looked, changed}
-use Rattle.driving.specs.Endings.{ending_with}
 use Rattle.step_fit.specs.Promises.{smallest_complete}
 use Rattle.step_fit.proofs.Runs.{map_next, map-stop}
 
--- every candidate was asked, which ended as `d` and found `o`
-module _ {xs : List ℕ} {s v : Point} (st : ℕ) (l : List FreeRegion) (o : Option FreeRegion) (d : Ended)
-    (searched : Ran (smallest_complete l) xs s (ending_with o d) v) where
-  pub other-stop : {p : Outcome} → d ≡ Ends p → Ran (or_other st l none) xs s (ending_with none d) v
+-- every candidate was asked, which ended, found none, or found a region
+module _ {xs : List ℕ} {s v : Point} (st : ℕ) (l : List FreeRegion) where
+  pub other-stop : {p : Outcome} → Ran (smallest_complete l) xs s (ends p) v → Ran (or_other st l none) xs s (ends p) v
   unfolding or_other
-  other-stop h = rw h (map-stop (ask_all l) smallest (take_over st) (rw h at searched))
+  other-stop searched = map-stop (ask_all l) smallest (take_over st) searched
 
-  pub other_none : d ≡ On → o ≡ none → Ran (or_other st l none) xs s (on none) v
+  pub other_none : Ran (smallest_complete l) xs s (on none) v → Ran (or_other st l none) xs s (on none) v
   unfolding or_other take_over
-  other_none h q = map_next (ask_all l) smallest (take_over st) (rw (h, q) at searched) gave
+  other_none searched = map_next (ask_all l) smallest (take_over st) searched gave
 
-  pub other-some : d ≡ On → (r : FreeRegion) → o ≡ some r →
+  pub other-some : (r : FreeRegion) → Ran (smallest_complete l) xs s (on (some r)) v →
       Ran (or_other st l none) xs s (on (some (on_stream st r)))
       (point v.made (with_free (map (λ q. cond (eqb (from q) (from r)) (on_stream st q) q) v.tables.free) v.tables) v.log)
   unfolding or_other take_over
-  other-some h r q = map_next (ask_all l) smallest (take_over st) (rw (h, q) at searched) (next _ (changed _) gave)
+  other-some r searched = map_next (ask_all l) smallest (take_over st) searched (next _ (changed _) gave)
 
 -- the region that was taken over, at its place
 pub taken-over : (st : ℕ) (l : List FreeRegion) (i : ℕ) → i < length l →

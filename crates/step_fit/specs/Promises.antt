@@ -1,29 +1,28 @@
 -- What the code of fit needs, and what it promises.
-use Rattle.std.specs.Prelude.{List, ℕ, ◌+◌, ◌≤◌}
+use Rattle.std.specs.Prelude.{Result, List, ℕ, ◌+◌, ◌≤◌}
 use Rattle.std.proofs.Math.Option.{Option}
 use Rattle.lists.specs.Order.{Rises}
 use Rattle.tables.specs.Values.{Tables, free_of, with_free, empty_region}
 use Rattle.tables.specs.Kept.{KeptFree}
-use Rattle.tables.specs.Choices.{chosen, Placed}
-use Rattle.tables.specs.Steps.{Ending, Step, ◌>>=◌, give}
+use Rattle.cells.specs.Table.{Choice, chosen, Placed}
+use Rattle.tables.specs.Steps.{Ending, on, ends, Step, ◌>>=◌, give}
 use Rattle.tables.specs.InsertFree.{from}
 use Rattle.tables.specs.Fit.{candidates, smallest, ask_all}
 use Rattle.tables.specs.declared.FreeRegion.{FreeRegion}
-use Rattle.tables.specs.declared.FreeRegions.{FreeRegions}
-use Rattle.driving.specs.Ran.{Ran, point}
-use Rattle.driving.specs.Endings.{ending_with}
-use Rattle.step_fit.specs.declared.Fitted.{Fitted}
-use Rattle.step_fit.specs.declared.Searched.{Searched}
+use Rattle.tables.specs.declared.Outcome.{Outcome}
+use Rattle.tables.specs.Values.{FreeRegions}
+use Rattle.driving.specs.Ran.{Ran, Lent, stands}
+use Rattle.driving.specs.Endings.{ending}
+use Rattle.driving.specs.declared.Driver.{Driver}
 
--- the region found, in the table that is left
-abbrev pub found : Fitted → Option FreeRegion
-found r = chosen empty_region (free_of r.free) r.fit
+-- The place that was found is one of the table's: where a step went on, the region there, or none.
+abbrev pub found_in : List FreeRegion → Ending Choice → Ending (Option FreeRegion)
+found_in l (on c) = on (chosen empty_region l c)
+found_in l (ends o) = ends o
 
-abbrev pub fit_ending : Fitted → Ending (Option FreeRegion)
-fit_ending r = ending_with (found r) r.ended
-
-abbrev pub searched_ending : List FreeRegion → Searched → Ending (Option FreeRegion)
-searched_ending l r = ending_with (chosen empty_region l r.choice) r.ended
+abbrev pub PlacedIn : List FreeRegion → Ending Choice → Type 0
+PlacedIn l (on c) = Placed l c
+PlacedIn l (ends o) = Unit {0}
 
 -- ask every one of a list: the smallest complete one
 abbrev pub smallest_complete : List FreeRegion → Step (Option FreeRegion)
@@ -35,16 +34,19 @@ pub record Fittable (f : FreeRegions) : Type 0 where
   pub rises : Rises from 0 (free_of f)
 
 -- Each candidate is asked once.
-pub record Searches (n : ℕ) (xs : List ℕ) (f : FreeRegions) (k : ℕ) (l : List ℕ) (r : Searched) (m : List ℕ) : Type 0 where
+pub record Searches (n : ℕ) (f : FreeRegions) (d : Driver) (r : Result Choice Outcome) (d' : Driver) : Type 0 where
+  pub lent : Lent d d'
   pub ran : (t : Tables) →
-      Ran (smallest_complete (candidates n (free_of f))) xs (point k (with_free (free_of f) t) l) (searched_ending (free_of f) r)
-      (point r.made (with_free (free_of f) t) m)
-  pub placed : Placed (free_of f) r.choice
-  pub most : r.made ≤ k + f.count
+      Ran (smallest_complete (candidates n (free_of f))) d.answers.now (stands d (with_free (free_of f) t)) (found_in (free_of f) (ending r))
+      (stands d' (with_free (free_of f) t))
+  pub placed : PlacedIn (free_of f) (ending r)
+  pub most : d'.made ≤ d.made + f.count
 
 -- The region is found as `rule` says, with at most one driver call for each free region.
-pub record Fits (rule : Step (Option FreeRegion)) (xs : List ℕ) (f : FreeRegions) (k : ℕ) (l : List ℕ) (r : Fitted) (m : List ℕ) : Type 0 where
-  pub ran : (t : Tables) → Ran rule xs (point k (with_free (free_of f) t) l) (fit_ending r) (point r.made (with_free (free_of r.free) t) m)
-  pub placed : Placed (free_of r.free) r.fit
-  pub free : KeptFree r.free
-  pub most : r.made ≤ k + f.count
+pub record Fits (rule : Step (Option FreeRegion)) (d : Driver) (f : FreeRegions) (r : Result Choice Outcome) (d' : Driver) (f' : FreeRegions) : Type 0 where
+  pub lent : Lent d d'
+  pub ran : (t : Tables) →
+      Ran rule d.answers.now (stands d (with_free (free_of f) t)) (found_in (free_of f') (ending r)) (stands d' (with_free (free_of f') t))
+  pub placed : PlacedIn (free_of f') (ending r)
+  pub free : KeptFree f'
+  pub most : d'.made ≤ d.made + f.count

@@ -1,57 +1,57 @@
 -- What the code leans on, read off the pool: the buffer is one of the live ones, and its range can be inserted as free.
-use mathlib.Core.Path.{◌≡◌}
+use mathlib.Core.Path.{◌≡◌, ap, sym, ◌∙◌}
 use mathlib.Core.Bool.{not}
-use Prim.Native.Nat.{ℕ}
+use Prim.Native.Nat.{ℕ, ◌≤◌, ◌<◌}
 use native.Mathlib.Omega.{arith}
 use lib.Dec.{eqb}
-use lib.ListN.{get_or}
-use Rattle.lists.specs.Tests.{Member}
+use lib.ListN.{length, get_or}
 use Rattle.lists.specs.Order.{without}
+use Rattle.lists.specs.Places.{remove_at}
+use Rattle.lists.proofs.Keys.{without_key}
 use Rattle.lists.proofs.Tests.{length-filter}
 use Rattle.lists.proofs.Members.{member-at}
+use Rattle.tables.specs.Bounds.{SPANS}
 use Rattle.tables.specs.Values.{live_of, pack_live, tables_of, empty_buffer}
-use Rattle.tables.specs.Kept.{KeptFree, KeptPool}
-use Rattle.tables.specs.declared.FreeRegions.{FreeRegions}
+use Rattle.tables.specs.Kept.{KeptLive}
 use Rattle.tables.specs.declared.LiveBuffer.{LiveBuffer}
-use Rattle.tables.specs.declared.LiveBuffers.{LiveBuffers}
 use Rattle.tables.specs.declared.Pool.{Pool}
-use Rattle.tables.proofs.Packs.{free-count, live-count, live-kept}
+use Rattle.tables.specs.Values.{LiveBuffers}
+use Rattle.tables.proofs.Packs.{free-count, live-count, live-kept, live_pack}
 use Rattle.keeping.proofs.FreeCall.{inserting}
 use Rattle.keeping.proofs.Bounds.{inserting_bounds}
 use Rattle.step_insert_free.specs.Promises.{Insertable}
-use Rattle.step_free.specs.Promises.{Freeable, holding}
+use Rattle.step_free.specs.Promises.{Freeable}
 
-module _ {i : ℕ} {b : LiveBuffers} {f : FreeRegions} {c : ℕ} (h : Freeable i b f c) where
+module _ {i : ℕ} {p : Pool} (h : Freeable i p) where
   abbrev it : LiveBuffer
-  it = get_or (live_of b) i empty_buffer
+  it = get_or (live_of p.live) i empty_buffer
 
-  member : Member it (live_of b)
-  member = member-at (live_of b) i empty_buffer (omega (arith, h.placed, live-count b h.tables.live))
+  within : i < length (live_of p.live)
+  within = omega (arith, h.placed, live-count p.live h.tables.live)
 
-  pub insertable : Insertable it.start.0 it.size c f
+  pub insertable : Insertable it.start.0 it.size p.counter p.free
   unfolding tables_of
   insertable =
-      let w = inserting_bounds (inserting it (tables_of (holding b f c h.around)) h.kept member) in
+      let w = inserting_bounds (inserting it (tables_of p) h.kept (member-at (live_of p.live) i empty_buffer within)) in
       record {
         free = h.tables.free;
-        room = omega (arith, w.few, free-count f h.tables.free);
+        room = omega (arith, w.few, free-count p.free h.tables.free);
         end = w.ends;
         range_end = w.range_end;
         sizes = w.sizes;
         counter = h.ids;
       }
 
--- what the steps leave of a pool: free regions, a counter, and the other buffers
-pub kept-after : (p : Pool) (f : FreeRegions) (a c : ℕ) (b : LiveBuffers) → KeptPool p → KeptFree f →
-    b ≡ pack_live (without (λ z. z.start.0) a (live_of p.live)) → KeptPool (holding b f c p)
-kept-after p f a c b h k e =
-    record {
-      free = k;
-      live =
-          rw e (live-kept (without (λ z. z.start.0) a (live_of p.live))
-          (omega (arith, length-filter (λ z. not (eqb z.start.0 a)) (live_of p.live), live-count p.live h.live, h.live.most)));
-      holes = h.holes;
-      zombies = h.zombies;
-      pages = h.pages;
-      roots = h.roots;
-    }
+  -- the buffer taken out at its place
+  pub others_are : (o : LiveBuffers) → o ≡ pack_live (remove_at i (live_of p.live)) → live_of o ≡ without (λ z. z.start.0) it.start.0 (live_of p.live)
+  unfolding tables_of
+  others_are o e = ap live_of e ∙ live_pack _ ∙ sym (without_key (λ z. z.start.0) 0 (live_of p.live) i empty_buffer h.kept.sound.live_rises within)
+
+  pub others-kept : (o : LiveBuffers) → o ≡ pack_live (remove_at i (live_of p.live)) → KeptLive o
+  unfolding tables_of
+  others-kept o e =
+      let same : remove_at i (live_of p.live) ≡ without (λ z. z.start.0) it.start.0 (live_of p.live) =
+      sym (without_key (λ z. z.start.0) 0 (live_of p.live) i empty_buffer h.kept.sound.live_rises within) in
+      let few : length (without (λ z. z.start.0) it.start.0 (live_of p.live)) ≤ SPANS =
+      omega (arith, length-filter (λ z. not (eqb z.start.0 it.start.0)) (live_of p.live), live-count p.live h.tables.live, h.tables.live.most) in
+      rw (e, same) (live-kept _ few)

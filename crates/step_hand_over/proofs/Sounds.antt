@@ -8,8 +8,8 @@ use Rattle.tables.specs.Values.{buffer, free_of, pack_free, live_of, pack_live, 
 use Rattle.tables.specs.Kept.{KeptFree, KeptLive}
 use Rattle.tables.specs.InsertFree.{from, upto}
 use Rattle.tables.specs.declared.FreeRegion.{FreeRegion}
-use Rattle.tables.specs.declared.FreeRegions.{FreeRegions}
-use Rattle.tables.specs.declared.LiveBuffers.{LiveBuffers}
+use Rattle.tables.specs.Values.{FreeRegions}
+use Rattle.tables.specs.Values.{LiveBuffers}
 use Rattle.tables.proofs.Packs.{free-kept, free-count, live-kept, live-count}
 use Rattle.keeping.proofs.Sounds.{sound-next}
 use Rattle.keeping.proofs.Bounds.{free-ends}

@@ -1,16 +1,16 @@
 -- What handing over a region needs, and what it promises.
 use Rattle.std.specs.Prelude.{List, ℕ, ◌<◌}
+use Rattle.words.specs.declared.Address.{Address}
 use Rattle.tables.specs.Values.{Tables, free_of, live_of, with_free, with_live}
 use Rattle.tables.specs.Kept.{KeptFree, KeptLive}
 use Rattle.tables.specs.Steps.{on}
 use Rattle.tables.specs.Malloc.{hand_over}
-use Rattle.tables.specs.declared.FreeRegions.{FreeRegions}
-use Rattle.tables.specs.declared.LiveBuffers.{LiveBuffers}
+use Rattle.tables.specs.Values.{FreeRegions}
+use Rattle.tables.specs.Values.{LiveBuffers}
 use Rattle.tables.specs.declared.Outcome.TheVariants.{Allocated}
 use Rattle.keeping.specs.Malloc.{Handing}
 use Rattle.regions.specs.Cutting.{region_at}
 use Rattle.driving.specs.Ran.{Ran, point}
-use Rattle.step_hand_over.specs.declared.HandedOver.{HandedOver}
 
 -- the tables `t`, with these free regions and live buffers
 abbrev pub handing : FreeRegions → LiveBuffers → Tables → Tables
@@ -26,8 +26,8 @@ pub record Handable (n i : ℕ) (f : FreeRegions) (b : LiveBuffers) : Type 0 whe
   pub due : Handing lost n (region_at f i) (handing f b around)
 
 -- The first `n` bytes of the region at the place `i` are handed over on stream `s`, with no driver call.
-pub record HandsOver (n s i : ℕ) (f : FreeRegions) (b : LiveBuffers) (h : HandedOver) : Type 0 where
+pub record HandsOver (n s i : ℕ) (f : FreeRegions) (b : LiveBuffers) (start : Address) (f' : FreeRegions) (b' : LiveBuffers) : Type 0 where
   pub ran : (xs : List ℕ) (k : ℕ) (t : Tables) (l : List ℕ) →
-      Ran (hand_over n s (region_at f i)) xs (point k (handing f b t) l) (on (Allocated h.start n)) (point k (handing h.free h.live t) l)
-  pub free : KeptFree h.free
-  pub live : KeptLive h.live
+      Ran (hand_over n s (region_at f i)) xs (point k (handing f b t) l) (on (Allocated start n)) (point k (handing f' b' t) l)
+  pub free : KeptFree f'
+  pub live : KeptLive b'

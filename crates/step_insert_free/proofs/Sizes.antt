@@ -12,7 +12,7 @@ use Rattle.tables.specs.Values.{free_of, pack_free}
 use Rattle.tables.specs.Kept.{KeptFree}
 use Rattle.tables.specs.InsertFree.{from, put_free, merges}
 use Rattle.tables.specs.declared.FreeRegion.{FreeRegion}
-use Rattle.tables.specs.declared.FreeRegions.{FreeRegions}
+use Rattle.tables.specs.Values.{FreeRegions}
 use Rattle.tables.proofs.Packs.{free-count, free-kept}
 
 module _ (a n s : ℕ) (f : FreeRegions) (k : KeptFree f) (room : f.count < SPANS) where

@@ -5,28 +5,25 @@ use mathlib.Core.List.{List}
 use Prim.Native.Nat.{ℕ, ◌+◌}
 use Rattle.lists.specs.Tests.{filter}
 use Rattle.tables.specs.Values.{with_free, with_counter}
-use Rattle.tables.specs.Steps.{on}
+use Rattle.tables.specs.Steps.{on, ends}
 use Rattle.tables.specs.Driver.{must, record_event}
 use Rattle.tables.specs.InsertFree.{put_free, merges, merged, insert_free}
 use Rattle.tables.specs.declared.FreeRegion.{FreeRegion}
 use Rattle.tables.specs.declared.Outcome.{Outcome}
 use Rattle.driving.specs.Ran.{Ran, Point, point}
-use Rattle.driving.specs.Endings.{ending}
-use Rattle.driving.specs.declared.Ended.{Ended}
-use Rattle.driving.specs.declared.Ended.TheVariants.{On, Ends}
 use Rattle.driving.proofs.Ran.{next, stop, gave, looked, changed}
-use Rattle.driving.specs.Endings.{ending_with}
 
--- the record of the event ended as `d`
-module _ {xs : List ℕ} {s v : Point} (a n st : ℕ) (d : Ended)
-    (told : Ran (must (record_event s.tables.fields.counter st)) xs
-    (point s.made (with_free (filter (λ q. not (merges a n st q)) s.tables.free) s.tables) s.log) (ending d) v) where
-  pub insert-on : (r : FreeRegion) → r ≡ merged a n st s.tables.fields.counter (filter (merges a n st) s.tables.free) → d ≡ On →
-      Ran (insert_free a n st) xs s (on r)
-      (point v.made (with_counter (v.tables.fields.counter + 1) (with_free (put_free r v.tables.free) v.tables)) v.log)
-  unfolding insert_free
-  insert-on r q h = rw q (next _ looked (next _ (changed _) (next _ (rw h at told) (next _ (changed _) (next _ (changed _) gave)))))
+-- without the neighbours of the range
+abbrev pub apart : ℕ → ℕ → ℕ → Point → Point
+apart a n st s = point s.made (with_free (filter (λ q. not (merges a n st q)) s.tables.free) s.tables) s.log
 
-  pub insert-stop : {o : Outcome} (r : FreeRegion) → d ≡ Ends o → Ran (insert_free a n st) xs s (ending_with r d) v
-  unfolding insert_free
-  insert-stop r h = rw h (next _ looked (next _ (changed _) (stop _ (rw h at told))))
+pub insert-on : {xs : List ℕ} {s v : Point} (a n st : ℕ) (r : FreeRegion) → r ≡ merged a n st s.tables.fields.counter (filter (merges a n st) s.tables.free) →
+    Ran (must (record_event s.tables.fields.counter st)) xs (apart a n st s) (on tt) v →
+    Ran (insert_free a n st) xs s (on r) (point v.made (with_counter (v.tables.fields.counter + 1) (with_free (put_free r v.tables.free) v.tables)) v.log)
+unfolding insert_free
+insert-on a n st r q told = rw q (next _ looked (next _ (changed _) (next _ told (next _ (changed _) (next _ (changed _) gave)))))
+
+pub insert-stop : {xs : List ℕ} {s v : Point} (a n st : ℕ) {o : Outcome} →
+    Ran (must (record_event s.tables.fields.counter st)) xs (apart a n st s) (ends o) v → Ran (insert_free a n st) xs s (ends o) v
+unfolding insert_free
+insert-stop a n st told = next _ looked (next _ (changed _) (stop _ told))

@@ -1,19 +1,16 @@
 -- What the code that inserts a range as free needs, and what it promises.
-use Rattle.std.specs.Prelude.{List, ℕ, ◌+◌, ◌≤◌, ◌<◌}
+use Rattle.std.specs.Prelude.{Result, ℕ, ◌+◌, ◌≤◌, ◌<◌}
 use Rattle.lists.specs.Tests.{All}
 use Rattle.tables.specs.Bounds.{END, SPANS}
 use Rattle.tables.specs.Values.{Tables, free_of, with_free, with_counter}
 use Rattle.tables.specs.Kept.{KeptFree}
-use Rattle.tables.specs.Steps.{Ending}
 use Rattle.tables.specs.InsertFree.{upto, bytes, insert_free}
 use Rattle.tables.specs.declared.FreeRegion.{FreeRegion}
-use Rattle.tables.specs.declared.FreeRegions.{FreeRegions}
-use Rattle.driving.specs.Ran.{Ran, point}
-use Rattle.driving.specs.Endings.{ending_with}
-use Rattle.step_insert_free.specs.declared.FreeInserted.{FreeInserted}
-
-abbrev pub inserted_ending : FreeInserted → Ending FreeRegion
-inserted_ending r = ending_with r.region r.ended
+use Rattle.tables.specs.declared.Outcome.{Outcome}
+use Rattle.tables.specs.Values.{FreeRegions}
+use Rattle.driving.specs.Ran.{Ran, Lent, stands}
+use Rattle.driving.specs.Endings.{ending}
+use Rattle.driving.specs.declared.Driver.{Driver}
 
 -- the tables `t`, with these free regions and this counter
 abbrev pub inserting : FreeRegions → ℕ → Tables → Tables
@@ -29,8 +26,8 @@ pub record Insertable (a n c : ℕ) (f : FreeRegions) : Type 0 where
   pub counter : c < END
 
 -- The range from `a` of `n` bytes is inserted as free on stream `s`, with one driver call.
-pub record Inserts (a n s : ℕ) (xs : List ℕ) (f : FreeRegions) (c k : ℕ) (l : List ℕ) (r : FreeInserted) (m : List ℕ) : Type 0 where
-  pub ran : (t : Tables) →
-      Ran (insert_free a n s) xs (point k (inserting f c t) l) (inserted_ending r) (point r.made (inserting r.free r.counter t) m)
-  pub free : KeptFree r.free
-  pub most : r.made ≤ k + 1
+pub record Inserts (a n s : ℕ) (d : Driver) (f : FreeRegions) (c : ℕ) (r : Result FreeRegion Outcome) (d' : Driver) (f' : FreeRegions) (c' : ℕ) : Type 0 where
+  pub lent : Lent d d'
+  pub ran : (t : Tables) → Ran (insert_free a n s) d.answers.now (stands d (inserting f c t)) (ending r) (stands d' (inserting f' c' t))
+  pub free : KeptFree f'
+  pub most : d'.made ≤ d.made + 1

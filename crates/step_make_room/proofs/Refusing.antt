@@ -22,7 +22,7 @@ use Rattle.tables.specs.declared.Pool.{Pool}
 use Rattle.tables.specs.declared.Outcome.TheVariants.{RequestedExceedsVa, PagesFull, ZombiesFull, RootsFull}
 use Rattle.driving.specs.Ran.{Ran, Point}
 use Rattle.tables.proofs.Packs.{free-count, holes-count, zombies-count, pages-count}
-use Rattle.driving.specs.declared.Ended.TheVariants.{Ends}
+use Rattle.std.specs.Prelude.{Err}
 use Rattle.step_make_room.specs.Promises.{Refuses}
 use Rattle.driving.proofs.Ran.{next, stop, gave, ended, looked, taken, passed}
 
@@ -95,7 +95,7 @@ module _ {xs : List ℕ} {s : Point} where
 
 -- 10, by the counts that are tested: the zombies that there would be, with the holes, are as many as there is room for holes
 pub refuses_holes : (n : ℕ) (p : Pool) → KeptPool p → n ≤ p.va → missing n (tables_of p) / p.page ≤ PAGES - p.pages.count →
-    p.zombies.count + p.free.count ≤ ZOMBIES → HOLES ≤ p.zombies.count + p.free.count + p.holes.count → Refuses n p (Ends ZombiesFull)
+    p.zombies.count + p.free.count ≤ ZOMBIES → HOLES ≤ p.zombies.count + p.free.count + p.holes.count → Refuses n p (Err ZombiesFull)
 unfolding tables_of
 refuses_holes n p t fits pages pull full =
     let few : length (pages_of p.pages) + (n - bytes (free_of p.free)) / p.page ≤ PAGES = omega (arith, pages-count p.pages t.pages, t.pages.most) in

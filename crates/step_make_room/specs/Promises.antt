@@ -1,14 +1,14 @@
 -- What the refusals before room is made read and promise, and how many driver calls making room takes.
-use Rattle.std.specs.Prelude.{◌≡◌, List, ℕ, ◌+◌}
+use Rattle.std.specs.Prelude.{◌≡◌, Result, List, ℕ, ◌+◌}
 use Rattle.tables.specs.Values.{tables_of}
 use Rattle.tables.specs.Kept.{KeptPool}
 use Rattle.tables.specs.MakeRoom.{missing}
 use Rattle.tables.specs.Malloc.{room_refused}
+use Rattle.tables.specs.declared.Outcome.{Outcome}
 use Rattle.tables.specs.declared.Pool.{Pool}
 use Rattle.keeping.specs.Sound.{Kept}
 use Rattle.driving.specs.Ran.{Ran, point}
 use Rattle.driving.specs.Endings.{ending}
-use Rattle.driving.specs.declared.Ended.{Ended}
 use Rattle.step_new_room.specs.Promises.{take_room_calls}
 use Rattle.step_pull_in.specs.Promises.{pull_in_calls}
 
@@ -24,5 +24,5 @@ pub record Readable (n m : ℕ) (p : Pool) : Type 0 where
   pub lacks : m ≡ missing n (tables_of p)
 
 -- 8 to 11, of a pool, with no driver call.
-pub record Refuses (n : ℕ) (p : Pool) (e : Ended) : Type 0 where
-  pub ran : (xs : List ℕ) (k : ℕ) (l : List ℕ) → Ran (room_refused n) xs (point k (tables_of p) l) (ending e) (point k (tables_of p) l)
+pub record Refuses (n : ℕ) (p : Pool) (r : Result (Unit {0}) Outcome) : Type 0 where
+  pub ran : (xs : List ℕ) (k : ℕ) (l : List ℕ) → Ran (room_refused n) xs (point k (tables_of p) l) (ending r) (point k (tables_of p) l)

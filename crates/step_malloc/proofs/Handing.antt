@@ -15,13 +15,14 @@ use Rattle.tables.specs.Values.{tables_of, free_of, empty_region}
 use Rattle.tables.specs.Kept.{KeptFree, KeptPool}
 use Rattle.tables.specs.InsertFree.{from}
 use Rattle.tables.specs.declared.FreeRegion.{FreeRegion}
-use Rattle.tables.specs.declared.FreeRegions.{FreeRegions}
+use Rattle.tables.specs.Values.{FreeRegions, LiveBuffers}
+use Rattle.words.specs.declared.Address.{Address}
+use Rattle.driving.proofs.Lent.{lent-same}
 use Rattle.tables.specs.declared.Pool.{Pool}
 use Rattle.tables.specs.declared.Outcome.TheVariants.{Allocated}
 use Rattle.tables.proofs.Packs.{free-count}
 use Rattle.regions.specs.Cutting.{region_at}
 use Rattle.step_hand_over.specs.Promises.{Handable as CanHand, HandsOver}
-use Rattle.step_hand_over.specs.declared.HandedOver.{HandedOver}
 use Rattle.step_malloc.specs.Promises.{Handable, HandsOut}
 
 -- The region that starts at an address stands at the first place whose region starts there or above.
@@ -52,28 +53,29 @@ can-hand n i p w h =
     record { free = h.tables.free; live = h.tables.live; placed = w; lost = h.lost; around = tables_of p; due = h.due }
 
 -- the pool with what was handed over
-abbrev pub after : Pool → HandedOver → Pool
-after p h =
+abbrev pub after : Pool → FreeRegions → LiveBuffers → Pool
+after p f b =
     record {
       state = p.state;
       page = p.page;
       va = p.va;
       counter = p.counter;
-      free = h.free;
-      live = h.live;
+      free = f;
+      live = b;
       holes = p.holes;
       zombies = p.zombies;
       pages = p.pages;
       roots = p.roots;
     }
 
-pub handed_out : (n s i : ℕ) (p : Pool) (k : ℕ) → KeptPool p → (h : HandedOver) → HandsOver n s i p.free p.live h →
-    HandsOut n s (region_at p.free i) p k (record { pool = after p h; outcome = Allocated h.start n; made = k })
+pub handed_out : (n s i : ℕ) (p : Pool) → KeptPool p → {start : Address} {f : FreeRegions} {b : LiveBuffers} → HandsOver n s i p.free p.live start f b →
+    HandsOut n s (region_at p.free i) p (Allocated start n) (after p f b)
 unfolding tables_of
-handed_out n s i p k t h w =
+handed_out n s i p t w =
     record {
-      walked = λ xs l. record {
-        ran = w.ran xs k (tables_of p) l;
+      walked = λ d. record {
+        lent = lent-same d;
+        ran = w.ran d.answers.now d.made (tables_of p) d.log.now;
         kept = record { free = w.free; live = w.live; holes = t.holes; zombies = t.zombies; pages = t.pages; roots = t.roots };
         state = refl;
         most = omega arith;

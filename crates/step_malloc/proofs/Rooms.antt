@@ -1,7 +1,6 @@
 -- The ways where nothing fits: refused, no room made, or what was made handed over. What is not refused can be made room for, and the room made can be
 -- handed over.
 use mathlib.Core.Path.{◌≡◌, refl, ◌∙◌}
-use mathlib.Core.List.{List}
 use Prim.Native.Nat.{ℕ, ◌-◌, ◌≤◌}
 use native.Mathlib.Omega.{arith}
 use Rattle.tables.specs.Bounds.{END, SPANS}
@@ -9,6 +8,8 @@ use Rattle.tables.specs.Values.{tables_of}
 use Rattle.tables.specs.Steps.{on, ends}
 use Rattle.tables.specs.MakeRoom.{missing, make_room}
 use Rattle.tables.specs.Malloc.{room_refused, or_room}
+use Rattle.std.specs.Prelude.{Ok, Err}
+use Rattle.tables.specs.declared.FreeRegion.{FreeRegion}
 use Rattle.tables.specs.declared.Pool.{Pool}
 use Rattle.tables.specs.declared.Outcome.{Outcome}
 use Rattle.keeping.specs.Sound.{Whole}
@@ -18,13 +19,10 @@ use Rattle.keeping.proofs.Fit.{Fitting}
 use Rattle.keeping.proofs.MakeRoom.{makes-room}
 use Rattle.keeping.proofs.MakeRoom as Triple
 use Rattle.keeping.proofs.Malloc.{losing, admits-room, made, begins}
-use Rattle.driving.specs.Ran.{Ran, point}
-use Rattle.driving.specs.Endings.{stepped_at}
-use Rattle.driving.specs.Pools.{RoomRan}
-use Rattle.driving.specs.declared.Ended.{Ended}
-use Rattle.driving.specs.declared.Ended.TheVariants.{On, Ends}
-use Rattle.driving.specs.declared.Roomed.{Roomed}
-use Rattle.driving.specs.declared.Stepped.{Stepped}
+use Rattle.driving.specs.Ran.{Ran, stands}
+use Rattle.driving.specs.Pools.{PoolRan}
+use Rattle.driving.specs.declared.Driver.{Driver}
+use Rattle.driving.proofs.Lent.{lent-same}
 use Rattle.driving.proofs.Ran.{next, stop}
 use Rattle.driving.proofs.Holds.{holds-ran}
 use Rattle.step_new_room.specs.Promises.{free_bytes, CanTake, Roomable}
@@ -57,19 +55,15 @@ module _ {n : ℕ} {p : Pool} (g : Mallocable n p) where
     pub readable : Readable n m p
     readable = record { tables = g.tables; lost = g.lost; kept = g.asked.0; lacks = lacks }
 
-  module _ {m : ℕ} (lack : m ≡ n - free_bytes p) (s k : ℕ) (xs l : List ℕ) (d : Ended) (w : Refuses n p d) where
-    pub refused-stops : {o : Outcome} → d ≡ Ends o → RoomsOut n s xs p k l (stepped_at p d k) l
+  module _ {m : ℕ} (lack : m ≡ n - free_bytes p) (s : ℕ) {d : Driver} where
+    pub refused-stops : {o : Outcome} → Refuses n p (Err o) → RoomsOut n s d p (Err o) d p
     unfolding or_room
-    refused-stops {o} e =
-        rw e (record {
-          ending = ends o;
-          outcome = refl;
-          walked = record { ran = stop _ (stop _ (rw e at (w.ran xs k l))); kept = g.tables; state = refl; most = omega arith };
-        })
+    refused-stops w =
+        record { lent = lent-same d; ran = stop _ (stop _ (w.ran d.answers.now d.made d.log.now)); kept = g.tables; state = refl; most = omega arith }
 
-    module _ (e : d ≡ On) where
-      admitted : Ran (room_refused n) xs (point k (tables_of p) l) (on tt) (point k (tables_of p) l)
-      admitted = rw e at (w.ran xs k l)
+    module _ (w : Refuses n p (Ok tt)) where
+      admitted : Ran (room_refused n) d.answers.now (stands d (tables_of p)) (on tt) (stands d (tables_of p))
+      admitted = w.ran d.answers.now d.made d.log.now
 
       can-take : CanTake g.lost n p
       can-take = holds-ran (admits-room g.lost p.page (free_bytes p) n s size) admitted fitting
@@ -77,44 +71,29 @@ module _ {n : ℕ} {p : Pool} (g : Mallocable n p) where
       pub roomable : Roomable n m p
       roomable = record { kept = g.tables; ids = g.ids; lost = g.lost; takes = can-take; lacks = lacks lack }
 
-      -- room was asked for
-      module _ (r : Roomed) (j : List ℕ) (v : RoomRan (make_room n s) make_room_calls xs p k l r j) where
-        pub room-stops : {o : Outcome} → r.ended ≡ Ends o → RoomsOut n s xs p k l (stepped_at r.pool r.ended r.made) j
+      -- room was asked for: `q` and `d₁` are what that left
+      module _ {d₁ : Driver} {q : Pool} where
+        pub room-stops : {o : Outcome} → PoolRan (make_room n s) make_room_calls d p (ends o) d₁ q → RoomsOut n s d p (Err o) d₁ q
         unfolding or_room
-        room-stops {o} h =
-            rw h (record {
-              ending = ends o;
-              outcome = refl;
-              walked =
-                  record {
-                    ran = stop _ (next _ admitted (rw h at v.ran));
-                    kept = v.kept;
-                    state = v.state;
-                    most = v.most;
-                  };
-            })
+        room-stops v = record { lent = v.lent; ran = stop _ (next _ admitted v.ran); kept = v.kept; state = v.state; most = v.most }
 
-        module _ (h : r.ended ≡ On) where
-          roomed : Triple.Roomed g.lost (free_bytes p) n s r.region (tables_of r.pool)
-          roomed = holds-ran (makes-room g.lost p.page (free_bytes p) n s) (rw h at v.ran) can-take
+        module _ {r : FreeRegion} (v : PoolRan (make_room n s) make_room_calls d p (on r) d₁ q) where
+          roomed : Triple.Roomed g.lost (free_bytes p) n s r (tables_of q)
+          roomed = holds-ran (makes-room g.lost p.page (free_bytes p) n s) v.ran can-take
 
-          pub room-handable : Handable n r.region r.pool
+          pub room-handable : Handable n r q
           room-handable =
-              let d = made g.lost p.page (free_bytes p) n s size r.region (tables_of r.pool) roomed in
-              record { tables = v.kept; lost = losing g.lost d.0; due = d.1.1 }
+              let x = made g.lost p.page (free_bytes p) n s size r (tables_of q) roomed in
+              record { tables = v.kept; lost = losing g.lost x.0; due = x.1.1 }
 
-          pub room-handed : (x : Stepped) → HandsOut n s r.region r.pool r.made x → RoomsOut n s xs p k l x j
+          pub room-handed : {o : Outcome} {x : Pool} → HandsOut n s r q o x → RoomsOut n s d p (Ok o) d₁ x
           unfolding or_room
-          room-handed x y =
-              let z = y.walked xs j in
+          room-handed y =
+              let z = y.walked d₁ in
               record {
-                ending = on x.outcome;
-                outcome = refl;
-                walked =
-                    record {
-                      ran = next _ (next _ admitted (rw h at v.ran)) z.ran;
-                      kept = z.kept;
-                      state = z.state ∙ v.state;
-                      most = omega (arith, z.most, v.most);
-                    };
+                lent = v.lent;
+                ran = next _ (next _ admitted v.ran) (rw v.lent.answers at z.ran);
+                kept = z.kept;
+                state = z.state ∙ v.state;
+                most = v.most;
               }

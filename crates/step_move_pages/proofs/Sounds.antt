@@ -22,8 +22,7 @@ use Rattle.tables.specs.Kept.{KeptPages}
 use Rattle.tables.specs.NewPages.{at}
 use Rattle.tables.specs.Pull.{starts, pages_in, handle_at}
 use Rattle.tables.specs.declared.Zombie.{Zombie}
-use Rattle.tables.specs.declared.Zombies.{Zombies}
-use Rattle.tables.specs.declared.Pages.{Pages}
+use Rattle.tables.specs.Values.{Pages}
 use Rattle.tables.proofs.Packs.{pages_pack, pages-kept, pages-count}
 use Rattle.keeping.specs.Cover.{within, cover_zombies}
 use Rattle.keeping.specs.Sound.{WholeRange}
@@ -32,7 +31,7 @@ use Rattle.keeping.proofs.Whole.{aligned-pages}
 use Rattle.keeping.proofs.PageStarts.{length-starts}
 use Rattle.keeping.proofs.Sounds.{sound-zombies, sound-range}
 use Rattle.keeping.proofs.Move.{page-there, length_unpaged, moving-next, moving-first}
-use Rattle.step_move_pages.specs.Promises.{Waiting, pulled, PagesMovable}
+use Rattle.step_move_pages.specs.Promises.{Waiting, PagesMovable}
 
 module _ {page a : ℕ} {bs : List ℕ} {g : Pages} (w : Waiting page a bs g) where
   pub page-positive : 0 < page
@@ -65,8 +64,8 @@ module _ {page a b : ℕ} {bs : List ℕ} {g : Pages} (w : Waiting page a (b ∷
   few = omega (arith, w.moving.few.pages)
 
   -- its place is one of those in use
-  pub stands : place (λ q. eqb (at q) b) (pages_of g) < g.count
-  stands =
+  pub in-use : place (λ q. eqb (at q) b) (pages_of g) < g.count
+  in-use =
       let gone : length (pages_of g) ≤ place (λ q. eqb (at q) b) (pages_of g) → without at b (pages_of g) ≡ pages_of g =
       λ past. without_is at b 0 (pages_of g) w.moving.sound.pages_rise ∙ remove_at-past _ (pages_of g) past in
       ⊎_elim (λ h. omega (arith, pages-count g w.pages)) (λ past. absurd (omega (arith, fewer, ap length (gone past))))
@@ -101,8 +100,8 @@ module _ {page b n : ℕ} (range : WholeRange page b n) where
       let l = starts (n / page) b page in
       fits w n range.size.positive (rw (length-append l bs, add-mul (length l) (length bs) page) (omega (arith, length-range)))
 
-module _ {page a first : ℕ} {z : Zombies} {g : Pages} (c : PagesMovable page a first z g) where
-  pub waiting-first : Waiting page a (pages_in page (pulled first z)) g
+module _ {page a : ℕ} {pulled : List Zombie} {g : Pages} (c : PagesMovable page a pulled g) where
+  pub waiting-first : Waiting page a (pages_in page pulled) g
   waiting-first =
       record {
         pages = c.pages;
@@ -111,17 +110,17 @@ module _ {page a first : ℕ} {z : Zombies} {g : Pages} (c : PagesMovable page a
         base = a;
         spans = c.spans;
         around = c.around;
-        moving = moving-first c.lost c.hand page a c.spans c.around.free (pulled first z) (with_pages (pages_of g) c.around) c.movable;
+        moving = moving-first c.lost c.hand page a c.spans c.around.free pulled (with_pages (pages_of g) c.around) c.movable;
       }
 
   -- a zombie is in no other table, and the roots end where addresses end
-  pub ranges : All (λ y. WholeRange page y.start.0 y.size × (y.start.0 + y.size ≤ END)) (pulled first z)
-  ranges = all-members _ (pulled first z) one
+  pub ranges : All (λ y. WholeRange page y.start.0 y.size × (y.start.0 + y.size ≤ END)) pulled
+  ranges = all-members _ pulled one
     where
-      one : (y : Zombie) → Member y (pulled first z) → WholeRange page y.start.0 y.size × (y.start.0 + y.size ≤ END)
+      one : (y : Zombie) → Member y pulled → WholeRange page y.start.0 y.size × (y.start.0 + y.size ≤ END)
       one y m =
-          let range = member-all _ y (pulled first z) m c.movable.ranges in (
+          let range = member-all _ y pulled m c.movable.ranges in (
             range,
             sound-range (sound-zombies c.movable.sound {hand' = λ x. cover_zombies c.around.zombies x + c.hand x} [] tt (λ x. omega arith) tt) y.start.0 y.size range.size.positive
-                (λ x. omega (arith, sum-member (λ q. within q.start.0 q.size x) y (pulled first z) m, c.movable.among x)),
+                (λ x. omega (arith, sum-member (λ q. within q.start.0 q.size x) y pulled m, c.movable.among x)),
           )

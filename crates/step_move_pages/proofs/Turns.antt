@@ -1,31 +1,20 @@
 -- One page moved, by how its map goes: each is the steps of the rule in order. The first of the pages of a range, and the others.
 use mathlib.Core.Path.{◌≡◌}
 use mathlib.Core.List.{List, [], ◌∷◌}
-use Prim.Native.Nat.{ℕ, zero, suc, ◌+◌, ◌-◌, ◌*◌, ◌≤◌, ◌<◌}
+use Prim.Native.Nat.{ℕ, zero, suc, ◌+◌, ◌-◌, ◌*◌, ◌<◌}
 use native.Mathlib.Omega.{arith}
 use native.Mathlib.Nat.{suc-mul}
-use lib.ListN.{get_or, take, drop_of_length-le}
-use lib.Seq.{get_or-take, drop-cons}
 use Rattle.lists.specs.Order.{put, without}
-use Rattle.lists.proofs.Filled.{filled-count}
-use Rattle.words.specs.Words.{line}
-use Rattle.words.specs.Answers.{code_of}
 use Rattle.words.specs.declared.Word.TheVariants.{Map}
-use Rattle.tables.specs.Values.{page, zombies_of, with_pages, empty_zombie}
-use Rattle.tables.specs.Kept.{KeptZombies}
-use Rattle.tables.specs.Steps.{Ending, on, ends, Act}
-use Rattle.tables.specs.Driver.{driver, must, map}
+use Rattle.tables.specs.Values.{page, with_pages}
+use Rattle.tables.specs.Steps.{Ending, on, ends}
+use Rattle.tables.specs.Driver.{must, map}
 use Rattle.tables.specs.NewPages.{at, map_page}
 use Rattle.tables.specs.Pull.{starts, handle_at, move_pages}
-use Rattle.tables.specs.declared.Zombies.{Zombies}
 use Rattle.tables.specs.declared.Outcome.{Outcome}
-use Rattle.tables.proofs.Packs.{zombies-count}
 use Rattle.driving.specs.Ran.{Ran, Point, point}
-use Rattle.driving.specs.Endings.{ending}
-use Rattle.driving.specs.declared.Ended.{Ended}
-use Rattle.driving.specs.declared.Ended.TheVariants.{Ends}
+use Rattle.driving.specs.Promises.{telling}
 use Rattle.driving.proofs.Ran.{next, stop, looked, changed}
-use Rattle.step_move_pages.specs.Promises.{pulled}
 
 -- the first of the pages of a range
 pub starts_more : (k b p : ℕ) → 0 < k → starts k b p ≡ b ∷ starts (k - 1) (b + p) p
@@ -43,24 +32,13 @@ mul-more (suc k) p h =
     let e : suc k - 1 ≡ k = omega arith in
     rw e (omega (arith, suc-mul k p))
 
--- the first of the zombies from a place on
-module _ (z : Zombies) (i : ℕ) (k : KeptZombies z) where
-  pub pulled-more : i < z.count → pulled i z ≡ get_or z.cells i empty_zombie ∷ pulled (i + 1) z
-  unfolding zombies_of
-  pulled-more h =
-      let e : i + 1 ≡ suc i = omega arith in
-      rw (e, ← get_or-take z.count z.cells i empty_zombie h)
-      (drop-cons (take z.count z.cells) i empty_zombie (omega (arith, filled-count k)))
-
-  pub pulled-none : z.count ≤ i → pulled i z ≡ []
-  pulled-none h = drop_of_length-le (zombies_of z) {i = i} (omega (arith, zombies-count z k))
-
-pub stops_as : {xs : List ℕ} {s u : Point} {m : Act} {d : Ended} {o : Outcome} → d ≡ Ends o → Ran m xs s (ends o) u → Ran m xs s (ending d) u
-stops_as e r = rw e r
+-- what ended did not go on
+pub not-on : {A B : Type 0} {a : A} {o : Outcome} → ◌≡◌ {A = Ending A} (ends o) (on a) → B
+not-on e = let z : ◌≡◌ {A = ℕ} 0 1 = cc in absurd (omega arith)
 
 -- the call that is told to the driver is the rule's map
-pub mapped_as : {xs : List ℕ} {s u : Point} {e : Ending (Unit {0})} (a : ℕ) {h h' : ℕ} → h ≡ h' →
-    Ran (must (driver (λ x. line Map a h (code_of x)))) xs s e u → Ran (must (map a h')) xs s e u
+pub mapped_as : {xs : List ℕ} {s u : Point} {e : Ending (Unit {0})} (a : ℕ) {h h' : ℕ} → h ≡ h' → Ran (must (telling Map a h)) xs s e u →
+    Ran (must (map a h')) xs s e u
 unfolding map
 mapped_as a q r = rw q at r
 

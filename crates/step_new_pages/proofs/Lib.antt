@@ -3,4 +3,3 @@ pub mod Carried
 pub mod Counted
 pub mod Unmaking
 pub mod Making
-pub mod Placed

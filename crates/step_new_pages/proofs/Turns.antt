@@ -7,15 +7,26 @@ use borrow.Author.Tests.{eq-eqb, ne_eqb}
 use Rattle.lists.specs.Order.{put}
 use Rattle.lists.proofs.Tests.{one_more}
 use Rattle.words.specs.declared.Answer.{Answer}
-use Rattle.words.specs.declared.Answer.TheVariants.{Done, Failed}
+use Rattle.words.specs.declared.Answer.TheVariants.{Done, Failed, Missing}
 use Rattle.tables.specs.Values.{page, with_pages}
 use Rattle.tables.specs.Steps.{Ending, on, ends}
-use Rattle.tables.specs.Driver.{create, must, map}
+use Rattle.words.specs.Answers.{lent}
+use Rattle.tables.specs.Driver.{create, must, map, heard}
 use Rattle.tables.specs.NewPages.{Room, at, roll_back, is_active, created, map_page, make_pages}
 use Rattle.tables.specs.declared.Outcome.{Outcome}
 use Rattle.tables.specs.declared.Outcome.TheVariants.{DriverFailed, Incredible}
 use Rattle.driving.specs.Ran.{Point, point, Ran}
-use Rattle.driving.proofs.Ran.{gave, ended, looked, taken, passed, next, stop, changed}
+use Rattle.driving.proofs.Ran.{gave, ended, looked, taken, passed, next, stop, changed, ending-is}
+
+-- the answer of a driver call that went on is none that is missing
+pub not-missing : (p : ℕ) {xs : List ℕ} {s u : Point} → Ran (create p) xs s (on Missing) u → ⊥
+unfolding create
+not-missing p {xs = xs} {s = s} r = go (lent xs s.made) (ending-is r)
+  where
+    go : (y : Answer) → on Missing ≡ heard y → ⊥
+    go (Done v) e = cc
+    go (Failed c) e = cc
+    go Missing e = cc
 
 module _ {xs : List ℕ} {s : Point} (p n : ℕ) (o : Room) (a : ℕ) (q : s.tables.fields.page ≡ p) (h : 0 < n) where
   asked : {e : Ending Answer} {u : Point} → Ran (create p) xs s e u → Ran (create s.tables.fields.page) xs s e u

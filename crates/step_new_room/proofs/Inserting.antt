@@ -1,12 +1,13 @@
 -- What `insert_new` needs and leaves, by how its two calls ended.
-use mathlib.Core.Path.{◌≡◌, refl}
+use mathlib.Core.Path.{refl}
 use mathlib.Core.List.{List}
-use mathlib.Core.Option.{some}
 use Prim.Native.Nat.{ℕ, ◌+◌, ◌≤◌, ◌<◌}
 use native.Mathlib.Omega.{arith}
 use borrow.Author.Tests.{ne_eqb}
-use Rattle.tables.specs.Values.{tables_of}
-use Rattle.tables.specs.Steps.{ends, on}
+use Rattle.std.specs.Prelude.{Result, Err}
+use Rattle.words.specs.declared.Word.TheVariants.{Access}
+use Rattle.tables.specs.Values.{FreeRegions, tables_of}
+use Rattle.tables.specs.Steps.{Ending, ends, on}
 use Rattle.tables.specs.Driver.{must, access}
 use Rattle.tables.specs.InsertFree.{insert_free}
 use Rattle.tables.specs.NewPages.{Room as Taken, insert_new}
@@ -17,36 +18,35 @@ use Rattle.tables.proofs.Packs.{free-count}
 use Rattle.keeping.proofs.Bounds.{inserting_bounds}
 use Rattle.keeping.proofs.Fill.{made-inserting}
 use Rattle.keeping.proofs.InsertFree.{insert-counts}
-use Rattle.driving.specs.Ran.{Ran, Point, point}
-use Rattle.driving.specs.Endings.{ending_with, ending}
-use Rattle.driving.specs.declared.Ended.{Ended}
-use Rattle.driving.specs.declared.Ended.TheVariants.{On, Ends}
+use Rattle.driving.specs.Ran.{Ran, Point, Drove, stands}
+use Rattle.driving.specs.Endings.{ending}
+use Rattle.driving.specs.Promises.{telling}
+use Rattle.driving.specs.declared.Driver.{Driver}
+use Rattle.driving.proofs.Lent.{lent-then}
 use Rattle.driving.proofs.Ran.{next, stop, gave, passed}
 use Rattle.driving.proofs.Holds.{holds-ran}
-use Rattle.driving.proofs.Endings.{ends_as}
 use Rattle.step_insert_free.specs.Promises.{Insertable as CanInsert, Inserts}
-use Rattle.step_insert_free.specs.declared.FreeInserted.{FreeInserted}
 use Rattle.step_new_pages.specs.Promises.{room_of}
 use Rattle.step_new_pages.specs.declared.Room.{Room}
-use Rattle.step_new_room.specs.Promises.{Insertable, InsertsNew}
+use Rattle.step_new_room.specs.Promises.{Insertable, InsertsNew, given}
 
 -- the access of the pages made ended, or the range was inserted
 module _ {xs : List ℕ} {s u : Point} (o : Taken) (lacks : 0 < o.missing) where
-  pub access-stops : {x : Outcome} → Ran (must (access o.start o.missing)) xs s (ends x) u → Ran (insert_new o) xs s (ends x) u
+  access-stops : {x : Outcome} → Ran (must (access o.start o.missing)) xs s (ends x) u → Ran (insert_new o) xs s (ends x) u
   unfolding insert_new
   access-stops r = passed _ (ne_eqb o.missing 0 (λ e. omega arith)) (stop _ r)
 
-  pub inserts_as : {v : Point} → Ran (must (access o.start o.missing)) xs s (on tt) u → (d : Ended) (r : FreeRegion) →
-      Ran (insert_free o.start o.missing o.stream) xs u (ending_with r d) v → Ran (insert_new o) xs s (ending_with (some r) d) v
+  inserts_as : {v : Point} → Ran (must (access o.start o.missing)) xs s (on tt) u → (e : Ending FreeRegion) →
+      Ran (insert_free o.start o.missing o.stream) xs u e v → Ran (insert_new o) xs s (given e) v
   unfolding insert_new
-  inserts_as r On q i = passed _ (ne_eqb o.missing 0 (λ e. omega arith)) (next _ r (next _ i gave))
-  inserts_as r (Ends x) q i = passed _ (ne_eqb o.missing 0 (λ e. omega arith)) (next _ r (stop _ i))
+  inserts_as r (on q) i = passed _ (ne_eqb o.missing 0 (λ e. omega arith)) (next _ r (next _ i gave))
+  inserts_as r (ends x) i = passed _ (ne_eqb o.missing 0 (λ e. omega arith)) (next _ r (stop _ i))
 
 -- at most one id is spent, however it ended
-pub counts_as : {xs : List ℕ} {u v : Point} (a n s : ℕ) (d : Ended) (r : FreeRegion) → Ran (insert_free a n s) xs u (ending_with r d) v →
+counts_as : {xs : List ℕ} {u v : Point} (a n s : ℕ) (e : Ending FreeRegion) → Ran (insert_free a n s) xs u e v →
     v.tables.fields.counter ≤ u.tables.fields.counter + 1
-counts_as {u = u} a n s On r i = holds-ran (insert-counts a n s u.tables.fields.counter) i refl
-counts_as {u = u} a n s (Ends x) r i = holds-ran (insert-counts a n s u.tables.fields.counter) i refl
+counts_as {u = u} a n s (on r) i = holds-ran (insert-counts a n s u.tables.fields.counter) i refl
+counts_as {u = u} a n s (ends x) i = holds-ran (insert-counts a n s u.tables.fields.counter) i refl
 
 module _ (o : Room) (p : Pool) (g : Insertable o p) where
   -- What `insert_free` needs.
@@ -63,26 +63,31 @@ module _ (o : Room) (p : Pool) (g : Insertable o p) where
         counter = g.ids;
       }
 
-  module _ (xs l m : List ℕ) (k : ℕ) (d : Ended)
-      (accessed : Ran (must (access o.start.0 o.missing)) xs (point k (tables_of p) l) (ending d) (point (k + 1) (tables_of p) m)) where
+  module _ (d d' : Driver) where
     -- the access ended the call
-    pub access-stopped : {x : Outcome} (r : FreeRegion) → d ≡ Ends x →
-        InsertsNew o xs p k l (record { pool = p; region = r; ended = d; made = k + 1 }) m
-    access-stopped r e =
+    pub access-stopped : {x : Outcome} → Drove (must (telling Access o.start.0 o.missing)) d (ends x) d' → InsertsNew o d p (Err x) d' p
+    unfolding access
+    access-stopped accessed =
         record {
           walked =
-              record { ran = ends_as (some r) e (access-stops (room_of o) g.some (rw e at accessed)); kept = g.kept; state = refl; most = omega arith };
+              record {
+                lent = accessed.lent;
+                ran = access-stops (room_of o) g.some (accessed.ran (tables_of p));
+                kept = g.kept;
+                state = refl;
+                most = omega (arith, accessed.made);
+              };
           spent = omega arith;
         }
 
-    abbrev with-new : FreeInserted → Pool
-    with-new i =
+    abbrev with-new : FreeRegions → ℕ → Pool
+    with-new f c =
         record {
           state = p.state;
           page = p.page;
           va = p.va;
-          counter = i.counter;
-          free = i.free;
+          counter = c;
+          free = f;
           live = p.live;
           holes = p.holes;
           zombies = p.zombies;
@@ -90,18 +95,17 @@ module _ (o : Room) (p : Pool) (g : Insertable o p) where
           roots = p.roots;
         }
 
-    pub new_inserted : d ≡ On → (i : FreeInserted) (j : List ℕ) →
-        Inserts o.start.0 o.missing o.stream xs p.free p.counter (k + 1) m i j →
-        InsertsNew o xs p k l (record { pool = with-new i; region = i.region; ended = i.ended; made = i.made }) j
-    unfolding tables_of
-    new_inserted e i j w =
-        let ran : Ran (insert_free o.start.0 o.missing o.stream) xs (point (k + 1) (tables_of p) m) (ending_with i.region i.ended)
-        (point i.made (tables_of (with-new i)) j) =
-        w.ran (tables_of p) in
+    pub new_inserted : Drove (must (telling Access o.start.0 o.missing)) d (on tt) d' → (r : Result FreeRegion Outcome) (d'' : Driver) (f : FreeRegions) (c : ℕ) →
+        Inserts o.start.0 o.missing o.stream d' p.free p.counter r d'' f c → InsertsNew o d p r d'' (with-new f c)
+    unfolding tables_of access
+    new_inserted accessed r d'' f c w =
+        let ran : Ran (insert_free o.start.0 o.missing o.stream) d.answers.now (stands d' (tables_of p)) (ending r) (stands d'' (tables_of (with-new f c))) =
+        rw accessed.lent.answers at (w.ran (tables_of p)) in
         record {
           walked =
               record {
-                ran = inserts_as (room_of o) g.some (rw e at accessed) i.ended i.region ran;
+                lent = lent-then accessed.lent w.lent;
+                ran = inserts_as (room_of o) g.some (accessed.ran (tables_of p)) (ending r) ran;
                 kept =
                     record {
                       free = w.free;
@@ -112,7 +116,7 @@ module _ (o : Room) (p : Pool) (g : Insertable o p) where
                       roots = g.kept.roots;
                     };
                 state = refl;
-                most = omega (arith, w.most);
+                most = omega (arith, w.most, accessed.made);
               };
-          spent = counts_as o.start.0 o.missing o.stream i.ended i.region ran;
+          spent = counts_as o.start.0 o.missing o.stream (ending r) ran;
         }

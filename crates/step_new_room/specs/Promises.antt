@@ -1,10 +1,10 @@
 -- What the code that makes room needs, and what it promises.
-use Rattle.std.specs.Prelude.{◌≡◌, List, ℕ, ◌+◌, ◌-◌, ◌*◌, ◌/◌, ◌≤◌, ◌<◌}
-use Rattle.std.proofs.Math.Option.{some}
+use Rattle.std.specs.Prelude.{◌≡◌, Result, ℕ, ◌+◌, ◌-◌, ◌*◌, ◌/◌, ◌≤◌, ◌<◌}
+use Rattle.std.proofs.Math.Option.{Option, some}
 use Rattle.tables.specs.Bounds.{END, IDS, PAGES}
 use Rattle.tables.specs.Values.{tables_of, free_of}
 use Rattle.tables.specs.Kept.{KeptPool}
-use Rattle.tables.specs.Steps.{Ending, ends, ◌>>=◌}
+use Rattle.tables.specs.Steps.{Ending, on, ends, ◌>>=◌}
 use Rattle.tables.specs.InsertFree.{bytes}
 use Rattle.tables.specs.NewPages.{insert_new}
 use Rattle.tables.specs.MakeRoom.{missing, fill, make_room}
@@ -12,14 +12,12 @@ use Rattle.tables.specs.declared.FreeRegion.{FreeRegion}
 use Rattle.tables.specs.declared.Pool.{Pool}
 use Rattle.tables.specs.declared.Outcome.{Outcome}
 use Rattle.keeping.specs.MakeRoom.{TakesFrom, Made, Measured}
-use Rattle.driving.specs.Ran.{Ran, Point, point}
-use Rattle.driving.specs.Endings.{ending_with}
+use Rattle.driving.specs.Ran.{Ran, Point, Lent, stands}
+use Rattle.driving.specs.Endings.{ending}
 use Rattle.driving.specs.Pools.{PoolRan}
-use Rattle.driving.specs.declared.Roomed.{Roomed}
-use Rattle.driving.specs.declared.Ended.TheVariants.{On, Ends}
+use Rattle.driving.specs.declared.Driver.{Driver}
 use Rattle.step_new_pages.specs.Promises.{room_of}
 use Rattle.step_new_pages.specs.declared.Room.{Room}
-use Rattle.step_new_room.specs.declared.RoomTaken.{RoomTaken}
 
 -- The most driver calls of taking a room: one reserve; a create and a map for each missing page, and an unmap and a release where it is taken back.
 abbrev pub take_room_calls : ℕ
@@ -46,17 +44,18 @@ abbrev pub PagesMade : (ℕ → ℕ) → ℕ → Room → Pool → Type 0
 PagesMade lost f o p = Made lost p.page f (room_of o) (tables_of p) × Measured p.page f (room_of o)
 
 -- A range is taken and its missing pages are made: what the rest of make room does from there, the whole does, and where that ended it ended.
-pub record TakesRoom (n s : ℕ) (xs : List ℕ) (p : Pool) (k : ℕ) (l : List ℕ) (r : RoomTaken) (m : List ℕ) : Type 0 where
-  pub goes : r.ended ≡ On → (e : Ending FreeRegion) (u : Point) →
-      Ran (insert_new (room_of r.room) >>= λ x. fill (room_of r.room) x) xs (point r.made (tables_of r.pool) m) e u →
-      Ran (make_room n s) xs (point k (tables_of p) l) e u
-  pub stops : (o : Outcome) → r.ended ≡ Ends o → Ran (make_room n s) xs (point k (tables_of p) l) (ends o) (point r.made (tables_of r.pool) m)
-  pub kept : KeptPool r.pool
-  pub state : r.pool.state ≡ p.state
-  pub ids : r.pool.counter ≡ p.counter
-  pub size : r.room.size ≡ n
-  pub taken : (lost : ℕ → ℕ) → CanTake lost n p → r.ended ≡ On → PagesMade lost (free_bytes p) r.room r.pool
-  pub most : r.made ≤ k + take_room_calls
+pub record TakesRoom (n s : ℕ) (d : Driver) (p : Pool) (r : Result Room Outcome) (d' : Driver) (q : Pool) : Type 0 where
+  pub lent : Lent d d'
+  pub goes : (o : Room) → ending r ≡ on o → (e : Ending FreeRegion) (u : Point) →
+      Ran (insert_new (room_of o) >>= λ x. fill (room_of o) x) d.answers.now (stands d' (tables_of q)) e u →
+      Ran (make_room n s) d.answers.now (stands d (tables_of p)) e u
+  pub stops : (o : Outcome) → ending r ≡ ends o → Ran (make_room n s) d.answers.now (stands d (tables_of p)) (ends o) (stands d' (tables_of q))
+  pub kept : KeptPool q
+  pub state : q.state ≡ p.state
+  pub ids : q.counter ≡ p.counter
+  pub size : (o : Room) → ending r ≡ on o → o.size ≡ n
+  pub taken : (lost : ℕ → ℕ) → CanTake lost n p → (o : Room) → ending r ≡ on o → PagesMade lost (free_bytes p) o q
+  pub most : d'.made ≤ d.made + take_room_calls
 
 -- What `insert_new` needs: pages are missing, and they are made.
 pub record Insertable (o : Room) (p : Pool) : Type 0 where
@@ -67,7 +66,12 @@ pub record Insertable (o : Room) (p : Pool) : Type 0 where
   pub free : ℕ
   pub pages : PagesMade lost free o p
 
+-- A step that gives a value gives that there is one.
+abbrev pub given : {A : Type 0} → Ending A → Ending (Option A)
+given (on a) = on (some a)
+given (ends o) = ends o
+
 -- They are inserted as free, with two driver calls; at most one id is spent.
-pub record InsertsNew (o : Room) (xs : List ℕ) (p : Pool) (k : ℕ) (l : List ℕ) (r : Roomed) (m : List ℕ) : Type 0 where
-  pub walked : PoolRan (insert_new (room_of o)) 2 xs p k l (ending_with (some r.region) r.ended) r.pool r.made m
-  pub spent : r.pool.counter ≤ p.counter + 1
+pub record InsertsNew (o : Room) (d : Driver) (p : Pool) (r : Result FreeRegion Outcome) (d' : Driver) (q : Pool) : Type 0 where
+  pub walked : PoolRan (insert_new (room_of o)) 2 d p (given (ending r)) d' q
+  pub spent : q.counter ≤ p.counter + 1

@@ -6,10 +6,11 @@ ghost use Rattle.tables.specs.Values.{opened, pool_of, no_tables};
 ghost use Rattle.tables.specs.Open.{open_steps};
 ghost use Rattle.keeping.specs.Open.{Configured};
 ghost use Rattle.driving.specs.Ran.{RoomFor};
-ghost use Rattle.driving.specs.Pools.{CallRan};
+ghost use Rattle.driving.specs.Endings.{ending};
+ghost use Rattle.driving.specs.Pools.{PoolRan};
 ghost use Rattle.step_open.specs.Promises.{open_calls};
 
-use driving::{Ended, Stepped, must_tell, stepped_at};
+use driving::Driver;
 use step_make_room::make_room;
 use step_take_range::reserve_root;
 use tables::{Outcome, Pool};
@@ -19,60 +20,56 @@ use words::Word;
 fn no_tables(page: u64, va: u64) -> Pool
     ensures { result ≡ pool_of opened (no_tables page va) }
 {
-    let mut p = Pool::closed();
-    p.state = 1;
-    p.page = page;
-    p.va = va;
-    p
+    Pool {
+        state: 1,
+        page,
+        va,
+        ..Pool::closed()
+    }
 }
 
 // A root, and room made in it for the initial pages, which are synced; the base and the page size are the answer.
+fn open_in(
+    pool: &mut Pool,
+    initial: u64,
+    stream: u64,
+    driver: &mut Driver,
+) -> Result<Outcome, Outcome>
+    requires configured { Configured pool.old.page pool.old.va initial × RoomFor open_calls driver.old }
+    requires empty { pool.old ≡ pool_of opened (no_tables pool.old.page pool.old.va) }
+    ensures { PoolRan (open_steps initial stream) open_calls driver.old pool.old (ending result) driver.new pool.new }
+{
+    let page = pool.page;
+    let base = reserve_root(
+        &mut pool.holes,
+        &mut pool.roots,
+        page,
+        pool.va,
+        0,
+        driver,
+    )?;
+    if initial == 0 {
+        return Ok(Outcome::Opened(base, page));
+    }
+    // nothing is free: all of it is missing
+    let bytes = initial * page;
+    make_room(pool, bytes, bytes, stream, driver)?;
+    driver.must_tell(Word::Sync, stream, 0)?;
+    Ok(Outcome::Opened(base, page))
+}
+
+// The pool that was opened, and how that ended.
 pub fn open_steps(
     page: u64,
     va: u64,
     initial: u64,
     stream: u64,
-    answers: &[u64],
-    log: &mut [u64],
-) -> Stepped
-    requires { Configured page va initial × RoomFor open_calls log.old }
-    ensures { CallRan (open_steps initial stream) open_calls
-        answers.now (pool_of opened (no_tables page va)) 0 log.old result log.new }
+    driver: &mut Driver,
+) -> (Pool, Result<Outcome, Outcome>)
+    requires { Configured page va initial × RoomFor open_calls driver.old }
+    ensures { PoolRan (open_steps initial stream) open_calls driver.old (pool_of opened (no_tables page va)) (ending result.1) driver.new result.0 }
 {
-    let mut p = no_tables(page, va);
-    let took = reserve_root(p.holes, p.roots, page, va, 0, answers, log, 0);
-    let holes = took.holes;
-    let roots = took.roots;
-    p.holes = holes;
-    p.roots = roots;
-    let took_ended = took.ended;
-    let Ended::On = took_ended else {
-        return stepped_at(p, took_ended, took.made);
-    };
-    let base = took.start;
-    if initial == 0 {
-        return Stepped {
-            pool: p,
-            outcome: Outcome::Opened(base, page),
-            made: took.made,
-        };
-    }
-    // nothing is free: all of it is missing
-    let bytes = initial * page;
-    let roomed = make_room(p, bytes, bytes, stream, answers, log, took.made);
-    let q = roomed.pool;
-    let roomed_ended = roomed.ended;
-    let Ended::On = roomed_ended else {
-        return stepped_at(q, roomed_ended, roomed.made);
-    };
-    let synced = must_tell(answers, log, roomed.made, Word::Sync, stream, 0);
-    let n = roomed.made + 1;
-    let Ended::On = synced else {
-        return stepped_at(q, synced, n);
-    };
-    Stepped {
-        pool: q,
-        outcome: Outcome::Opened(base, page),
-        made: n,
-    }
+    let mut pool = no_tables(page, va);
+    let ended = open_in(&mut pool, initial, stream, driver);
+    (pool, ended)
 }

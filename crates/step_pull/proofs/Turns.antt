@@ -13,17 +13,18 @@ use Rattle.tables.specs.Bounds.{END, SPANS, ZOMBIES}
 use Rattle.tables.specs.Values.{Tables, free_of, pack_free, zombies_of, pack_zombies, with_free, empty_region}
 use Rattle.tables.specs.Kept.{KeptFree, KeptZombies}
 use Rattle.tables.specs.Steps.{Ending, on, ends}
-use Rattle.tables.specs.Choices.{Placed}
+use Rattle.cells.specs.Table.{Placed}
 use Rattle.tables.specs.InsertFree.{from, upto, put_rest, without_free}
-use Rattle.tables.specs.Pull.{pull_order, pull}
+use Rattle.tables.specs.Pull.{pull_order, pull, settle}
 use Rattle.tables.specs.declared.FreeRegion.{FreeRegion}
-use Rattle.tables.specs.declared.FreeRegions.{FreeRegions}
+use Rattle.tables.specs.Values.{FreeRegions}
 use Rattle.tables.specs.declared.Zombie.{Zombie}
-use Rattle.tables.specs.declared.Zombies.{Zombies}
-use Rattle.tables.specs.declared.Choice.{Choice}
-use Rattle.tables.specs.declared.Choice.TheVariants.{At}
+use Rattle.tables.specs.Values.{Zombies}
+use Rattle.cells.specs.Table.{Choice}
+use Rattle.std.specs.Prelude.{Some, Ok, Err, Option as Made}
+use Rattle.words.specs.declared.Address.{Address}
 use Rattle.tables.specs.declared.Outcome.{Outcome}
-use Rattle.tables.proofs.Choices.{placed_at}
+use Rattle.cells.proofs.Choices.{placed_at}
 use Rattle.tables.proofs.Packs.{free-count, free-kept, free_pack, zombies-count, zombies-kept, zombies_pack, zombies-packed-count}
 use Rattle.keeping.specs.Cover.{within, cover_free}
 use Rattle.keeping.specs.Sound.{WholeRange}
@@ -32,55 +33,51 @@ use Rattle.keeping.proofs.Rest.{length-put_rest}
 use Rattle.keeping.proofs.Pull.{spans_after, pulling-next}
 use Rattle.regions.specs.Cutting.{region_at, Cuttable}
 use Rattle.regions.specs.Pulling.{besides, next_to_pull}
-use Rattle.regions.specs.declared.Made.{Made}
 use Rattle.regions.proofs.Pulling.{pull-next, besides-without, rises-besides}
-use Rattle.driving.proofs.Endings.{ends_as}
-use Rattle.driving.specs.Ran.{Ran, Point, point}
-use Rattle.driving.specs.declared.Ended.TheVariants.{On, Ends}
-use Rattle.driving.specs.Endings.{ending}
+use Rattle.driving.proofs.Lent.{lent-same, lent-then}
+use Rattle.driving.specs.Ran.{Ran, Point, Lent, stands}
+use Rattle.driving.specs.declared.Driver.{Driver}
 use Rattle.step_pull.specs.Promises.{Settles, pulling, part_of, Pullable, Pulls}
-use Rattle.step_pull.specs.declared.Settled.{Settled}
-use Rattle.step_pull.specs.declared.Pulled.{Pulled}
 use Rattle.step_pull.proofs.Ways.{joined_to, pull-stop, pull-on, pulls-stop, pulls-on, joined-none, joined-more}
 
 -- Where the loop stands: `left` bytes lack, the regions of `order` are still to be pulled, and what the rest does the whole does.
-pub record Due (s lacks : ℕ) (made : Made) (xs : List ℕ) (f₀ : FreeRegions) (z₀ : Zombies) (k : ℕ) (l₀ : List ℕ)
-    (left : ℕ) (f : FreeRegions) (z : Zombies) (n : ℕ) (l : List ℕ) : Type 0 where
+pub record Due (s lacks : ℕ) (made : Made Address) (d₀ : Driver) (f₀ : FreeRegions) (z₀ : Zombies) (left : ℕ) (d : Driver) (f : FreeRegions) (z : Zombies) : Type 0 where
   pub order : List FreeRegion
   pub pullable : Pullable left order f z
   pub ordered : 0 < left → order ≡ pull_order s (besides made (free_of f))
-  pub same : length l ≡ length l₀
-  pub most : n + 2 * length order ≤ k + 2 * length (pull_order s (besides made (free_of f₀)))
+  pub lent : Lent d₀ d
+  pub most : d.made + 2 * length order ≤ d₀.made + 2 * length (pull_order s (besides made (free_of f₀)))
   pub grown : z₀.count ≤ z.count
-  pub rest : (t : Tables) (e : Ending (List Zombie)) (u : Point) → Ran (pull order s left) xs (point n (pulling f z t) l) e u →
-      Ran (pull (pull_order s (besides made (free_of f₀))) s lacks) xs (point k (pulling f₀ z₀ t) l₀) (joined_to (drop z₀.count (zombies_of z)) e) u
+  pub rest : (t : Tables) (e : Ending (List Zombie)) (u : Point) → Ran (pull order s left) d₀.answers.now (stands d (pulling f z t)) e u →
+      Ran (pull (pull_order s (besides made (free_of f₀))) s lacks) d₀.answers.now (stands d₀ (pulling f₀ z₀ t)) (joined_to (drop z₀.count (zombies_of z)) e) u
 
-pub due-first : (s lacks : ℕ) (made : Made) (xs : List ℕ) (f : FreeRegions) (z : Zombies) (k : ℕ) (l : List ℕ) →
-    Pullable lacks (pull_order s (besides made (free_of f))) f z → Due s lacks made xs f z k l lacks f z k l
-due-first s lacks made xs f z k l w =
+pub due-first : (s lacks : ℕ) (made : Made Address) (d : Driver) (f : FreeRegions) (z : Zombies) →
+    Pullable lacks (pull_order s (besides made (free_of f))) f z → Due s lacks made d f z lacks d f z
+due-first s lacks made d f z w =
     let nothing : drop z.count (zombies_of z) ≡ [] = drop_of_length-le (zombies_of z) {i = z.count} (omega (arith, zombies-count z w.zombies)) in
     record {
       order = pull_order s (besides made (free_of f));
       pullable = w;
       ordered = λ _. refl;
-      same = refl;
+      lent = lent-same d;
       most = omega arith;
       grown = omega arith;
       rest = λ t e u r. rw (joined-none _ nothing e) r;
     }
 
-module _ {s lacks : ℕ} {made : Made} {xs : List ℕ} {f₀ : FreeRegions} {z₀ : Zombies} {k : ℕ} {l₀ : List ℕ}
-    {left : ℕ} {f : FreeRegions} {z : Zombies} {n : ℕ} {l : List ℕ} (d : Due s lacks made xs f₀ z₀ k l₀ left f z n l) where
+module _ {s lacks : ℕ} {made : Made Address} {d₀ : Driver} {f₀ : FreeRegions} {z₀ : Zombies}
+    {left : ℕ} {m : Driver} {f : FreeRegions} {z : Zombies} (d : Due s lacks made d₀ f₀ z₀ left m f z) where
   -- nothing is left to be pulled
-  pub due-last : ((t : Tables) → Ran (pull d.order s left) xs (point n (pulling f z t) l) (on []) (point n (pulling f z t) l)) →
-      (out : Pulled) → out.free ≡ f → out.zombies ≡ z → out.made ≡ n → out.ended ≡ On → Pulls s lacks made xs f₀ z₀ k l₀ out l
-  due-last r out a b c e =
+  pub due-last : ((t : Tables) → Ran (pull d.order s left) d₀.answers.now (stands m (pulling f z t)) (on []) (stands m (pulling f z t))) →
+      Pulls s lacks made d₀ f₀ z₀ (Ok tt) m f z
+  due-last r =
       let w = d.pullable in
       record {
-        ran = λ t. rw (a, b, c, e, ← append-nil (drop z₀.count (zombies_of z))) (d.rest t _ _ (r t));
-        free = rw a w.free;
-        zombies = rw b w.zombies;
-        most = rw c (omega (arith, d.most));
+        lent = d.lent;
+        ran = λ t. rw (← append-nil (drop z₀.count (zombies_of z))) (d.rest t _ _ (r t));
+        free = w.free;
+        zombies = w.zombies;
+        most = omega (arith, d.most);
       }
 
   module _ (positive : 0 < left) (r : FreeRegion) (next : next_to_pull s (besides made (free_of f)) ≡ some r) where
@@ -102,7 +99,7 @@ module _ {s lacks : ℕ} {made : Made} {xs : List ℕ} {f₀ : FreeRegions} {z�
     pub part-some : (0 < min left r.size) × (min left r.size ≤ left)
     part-some = (omega (arith, wide.size.positive), omega arith)
 
-    pub room : n + 2 ≤ k + 2 * length (pull_order s (besides made (free_of f₀)))
+    pub room : m.made + 2 ≤ d₀.made + 2 * length (pull_order s (besides made (free_of f₀)))
     room = omega (arith, d.most, ap length more)
 
     -- the free regions without it
@@ -137,25 +134,30 @@ module _ {s lacks : ℕ} {made : Made} {xs : List ℕ} {f₀ : FreeRegions} {z�
           apart = λ h. sound-next now-due.due.sound at empty_region (omega (arith, free-count f now-due.free));
         }
 
-    -- settling it ended as `o` says
-    module _ (o : Settled) (m : List ℕ) (p : Settles s r xs n l o m) where
-      pub due-stop : {q : Outcome} → o.ended ≡ Ends q → (out : Pulled) → out.free ≡ pack_free (put_rest r.size r without_it) → out.zombies ≡ z →
-          out.ended ≡ o.ended → out.made ≡ o.made → Pulls s lacks made xs f₀ z₀ k l₀ out m
-      due-stop {q = q} e out a b c g =
-          let a' : out.free ≡ pack_free without_it = a ∙ ap pack_free (rw (eq-eqb r.size r.size refl)) in
+    -- the driver stands at `n` once it is settled
+    module _ (n : Driver) where
+      pub due-stop : {q : Outcome} → Settles s r m (Err q) n →
+          Pulls s lacks made d₀ f₀ z₀ (Err q) n (pack_free (put_rest r.size r without_it)) z
+      due-stop {q = q} p =
+          let whole : pack_free (put_rest r.size r without_it) ≡ pack_free without_it = ap pack_free (rw (eq-eqb r.size r.size refl)) in
           record {
-            ran = λ t. rw (ap free_of a' ∙ free_pack _, b, g)
-                (ends_as _ (c ∙ e) (d.rest t (ends q) _
-                (rw more (pulls-stop r others s left positive (pull-stop s left r (p.ran (with_free without_it (pulling f z t))) (ap ending e)) refl))));
-            free = rw a' (free-kept _ (omega (arith, fewer, fits)));
-            zombies = rw b now-due.zombies;
-            most = rw g (omega (arith, p.most, room));
+            lent = lent-then d.lent p.lent;
+            ran = λ t. rw (ap free_of whole ∙ free_pack without_it)
+                (d.rest t (ends q) _
+                (rw more (pulls-stop r others s left positive (pull-stop s left r (settled p t) refl) refl)));
+            free = rw whole (free-kept _ (omega (arith, fewer, fits)));
+            zombies = now-due.zombies;
+            most = omega (arith, p.most, room);
           }
+        where
+          settled : Settles s r m (Err q) n → (t : Tables) →
+              Ran (settle s r) d₀.answers.now (stands m (with_free without_it (pulling f z t))) (ends q) (stands n (with_free without_it (pulling f z t)))
+          settled p t = rw d.lent.answers at (p.ran (with_free without_it (pulling f z t)))
 
-      due-next : o.ended ≡ On → length m ≡ length l →
-          Due s lacks made xs f₀ z₀ k l₀ (left - min left r.size) (pack_free (put_rest (part_of left r).size r without_it))
-          (pack_zombies (zombies_of z ++ part_of left r ∷ [])) o.made m
-      due-next e q =
+      pub due-next : Settles s r m (Ok tt) n →
+          Due s lacks made d₀ f₀ z₀ (left - min left r.size) n (pack_free (put_rest (part_of left r).size r without_it))
+          (pack_zombies (zombies_of z ++ part_of left r ∷ []))
+      due-next p =
           let free-is = free_pack (put_rest (part_of left r).size r without_it) in
           let zombies_are = zombies_pack (zombies_of z ++ part_of left r ∷ []) in
           let w = now-due in
@@ -179,26 +181,30 @@ module _ {s lacks : ℕ} {made : Made} {xs : List ℕ} {f₀ : FreeRegions} {z�
                       (pulling-next w.lost w.hand w.bare w.page left w.spans w.keep r others positive (pulling f z w.around) w.due);
                 };
             ordered = λ h. rw free-is (ordered-next h);
-            same = q ∙ d.same;
+            lent = lent-then d.lent p.lent;
             most = omega (arith, p.most, d.most, ap length more);
             grown = omega (arith, d.grown, zombies-count z w.zombies, zombies-packed-count (zombies_of z ++ part_of left r ∷ []), longer);
             rest = λ t g u a.
                 rw (zombies_are, parts, ← joined-more (drop z₀.count (zombies_of z)) (part_of left r) g)
                 (d.rest t (joined_to (part_of left r ∷ []) g) u
-                (rw more (pulls-on r others s left positive (pull-on s left r (p.ran (with_free without_it (pulling f z t))) (ap ending e)) (part_of left r) refl g
+                (rw more (pulls-on r others s left positive (pull-on s left r (settled t) refl) (part_of left r) refl g
                 (rw (free-is, zombies_are) at a))));
           }
         where
+          settled : (t : Tables) →
+              Ran (settle s r) d₀.answers.now (stands m (with_free without_it (pulling f z t))) (on tt) (stands n (with_free without_it (pulling f z t)))
+          settled t = rw d.lent.answers at (p.ran (with_free without_it (pulling f z t)))
+
           ordered-next : 0 < left - min left r.size → others ≡ pull_order s (besides made (put_rest (part_of left r).size r without_it))
           ordered-next h =
               let whole : r.size ≡ min left r.size = omega arith in
               rw (eq-eqb r.size (min left r.size) whole, besides-without made (from r) (free_of f))
 
-      pub due-again : o.ended ≡ On → length m ≡ length l → (part : Zombie) → part ≡ part_of left r →
+      pub due-again : Settles s r m (Ok tt) n → (part : Zombie) → part ≡ part_of left r →
           (f' : FreeRegions) → f' ≡ pack_free (put_rest part.size r without_it) → (z' : Zombies) → z' ≡ pack_zombies (zombies_of z ++ part ∷ []) →
-          Due s lacks made xs f₀ z₀ k l₀ (left - part.size) f' z' o.made m
-      due-again e q part y f' a z' b = rw (a, b, y) (due-next e q)
+          Due s lacks made d₀ f₀ z₀ (left - part.size) n f' z'
+      due-again p part y f' a z' b = rw (a, b, y) (due-next p)
 
 -- a place that `next_to_pull` chose is below the count
-pub place-below : (f : FreeRegions) (c : Choice) (i : ℕ) → KeptFree f → Placed (free_of f) c → c ≡ At i → i < f.count
+pub place-below : (f : FreeRegions) (c : Choice) (i : ℕ) → KeptFree f → Placed (free_of f) c → c ≡ Some i → i < f.count
 place-below f c i k p e = omega (arith, placed_at (free_of f) c i p e, free-count f k)

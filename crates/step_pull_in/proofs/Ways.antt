@@ -13,10 +13,10 @@ use Rattle.tables.specs.Driver.{must, access}
 use Rattle.tables.specs.InsertFree.{bytes}
 use Rattle.tables.specs.Pull.{pull_order, pages_in, pull_in}
 use Rattle.tables.specs.declared.FreeRegion.{FreeRegion}
-use Rattle.tables.specs.declared.FreeRegions.{FreeRegions}
+use Rattle.tables.specs.Values.{FreeRegions}
 use Rattle.tables.specs.declared.Zombie.{Zombie}
-use Rattle.tables.specs.declared.Zombies.{Zombies}
-use Rattle.tables.specs.declared.Pages.{Pages}
+use Rattle.tables.specs.Values.{Zombies}
+use Rattle.tables.specs.Values.{Pages}
 use Rattle.tables.specs.declared.Pool.{Pool}
 use Rattle.tables.specs.declared.Outcome.{Outcome}
 use Rattle.tables.proofs.Packs.{free-count}

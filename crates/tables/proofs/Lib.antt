@@ -1,5 +1,5 @@
+pub mod Bits
 pub mod Packs
-pub mod Choices
 pub mod Apart
 pub mod AToN
 pub mod Beyond

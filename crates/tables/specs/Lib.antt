@@ -1,7 +1,6 @@
 pub mod Bounds
 pub mod Values
 pub mod Kept
-pub mod Choices
 pub mod Outcomes
 pub mod Steps
 pub mod Driver

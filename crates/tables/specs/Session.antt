@@ -5,6 +5,7 @@ use Rattle.words.specs.Answers.{of_pair, lent}
 use Rattle.words.specs.declared.Address.{Address}
 use Rattle.words.specs.declared.Record.{Record}
 use Rattle.words.specs.declared.Word.TheVariants.{Reserve, Create, Asked}
+use Rattle.cells.specs.Table.{entries, pack}
 use Rattle.tables.specs.Bounds.{LOG}
 use Rattle.tables.specs.Values.{
   Tables,
@@ -68,7 +69,7 @@ pub record Row : Type 0 where
 
 -- As in replay (docs/RULES.md 7.3); a malloc goes by `steps`. Whoever unfolds this unfolds all the rules.
 unfoldable pub replied_by : (ℕ → ℕ → Step Outcome) → Pool → Request → List ℕ → Reply
-unfolding ◌>>=◌ free_of pack_free live_of pack_live holes_of pack_holes zombies_of pack_zombies pages_of pack_pages roots_of pack_roots tables_of in_order pool_of of_pair lent reserve create map access unmap release record_event ask wait sync giveback insert_hole insert_free smallest_hole cut_hole credible reserve_root take_hole take_range map_page unmake roll_back created insert_new settle pull_one pull_in fill make_room clean cleanup take_over or_other fit allowed ceilings_kept sound well_formed finished admitted open_steps bad_configuration open_finished open_pool room_refused or_room hand_over malloc_steps malloc_by free_steps free_found free close_steps close_finished close
+unfolding ◌>>=◌ entries pack tables_of in_order pool_of of_pair lent reserve create map access unmap release record_event ask wait sync giveback insert_hole insert_free smallest_hole cut_hole credible reserve_root take_hole take_range map_page unmake roll_back created insert_new settle pull_one pull_in fill make_room clean cleanup take_over or_other fit allowed ceilings_kept sound well_formed finished admitted open_steps bad_configuration open_finished open_pool room_refused or_room hand_over malloc_steps malloc_by free_steps free_found free close_steps close_finished close
 replied_by steps p (opens page va initial) xs = open_pool page 0 va initial 0 xs LOG
 replied_by steps p (calls c) xs = answer_by steps p c xs LOG
 

@@ -1,20 +1,15 @@
 -- docs/RULES.md 1.3, 1.4: the values that the rules speak of. A pool's tables are lists here.
-use Rattle.std.specs.Prelude.{List, [], ℕ, length, take}
-use Rattle.lists.specs.Cells.{packed}
+use Rattle.std.specs.Prelude.{List, [], ℕ}
 use Rattle.lists.specs.Order.{sorted}
+use Rattle.cells.specs.Table.{entries, pack}
+use Rattle.cells.specs.declared.Table.{Table}
 use Rattle.words.specs.declared.Address.{Address}
 use Rattle.tables.specs.Bounds.{HOLES, PAGES, ROOTS, SPANS, ZOMBIES}
 use Rattle.tables.specs.declared.FreeRegion.{FreeRegion}
-use Rattle.tables.specs.declared.FreeRegions.{FreeRegions}
 use Rattle.tables.specs.declared.LiveBuffer.{LiveBuffer}
-use Rattle.tables.specs.declared.LiveBuffers.{LiveBuffers}
 use Rattle.tables.specs.declared.Hole.{Hole}
-use Rattle.tables.specs.declared.Holes.{Holes}
 use Rattle.tables.specs.declared.Zombie.{Zombie}
-use Rattle.tables.specs.declared.Zombies.{Zombies}
 use Rattle.tables.specs.declared.Page.{Page}
-use Rattle.tables.specs.declared.Pages.{Pages}
-use Rattle.tables.specs.declared.Roots.{Roots}
 use Rattle.tables.specs.declared.Pool.{Pool}
 
 abbrev pub address : ℕ → Address
@@ -72,42 +67,61 @@ pub record Tables : Type 0 where
   pub pages : List Page
   pub roots : List Address
 
+-- The six tables, each with its ceiling.
+abbrev pub FreeRegions : Type 0
+FreeRegions = Table FreeRegion SPANS
+
+abbrev pub LiveBuffers : Type 0
+LiveBuffers = Table LiveBuffer SPANS
+
+abbrev pub Holes : Type 0
+Holes = Table Hole HOLES
+
+abbrev pub Zombies : Type 0
+Zombies = Table Zombie ZOMBIES
+
+abbrev pub Pages : Type 0
+Pages = Table Page PAGES
+
+abbrev pub Roots : Type 0
+Roots = Table Address ROOTS
+
 -- A table and its list: the first cells, as many as its count; every other cell of a table that a call leaves is 0.
-unfoldable pub free_of : FreeRegions → List FreeRegion
-free_of t = take t.count t.cells
+abbrev pub free_of : FreeRegions → List FreeRegion
+free_of = entries
 
-unfoldable pub pack_free : List FreeRegion → FreeRegions
-pack_free l = record { cells = packed SPANS empty_region l; count = length l }
+abbrev pub pack_free : List FreeRegion → FreeRegions
+pack_free = pack empty_region
 
-unfoldable pub live_of : LiveBuffers → List LiveBuffer
-live_of t = take t.count t.cells
+abbrev pub live_of : LiveBuffers → List LiveBuffer
+live_of = entries
 
-unfoldable pub pack_live : List LiveBuffer → LiveBuffers
-pack_live l = record { cells = packed SPANS empty_buffer l; count = length l }
+abbrev pub pack_live : List LiveBuffer → LiveBuffers
+pack_live = pack empty_buffer
 
-unfoldable pub holes_of : Holes → List Hole
-holes_of t = take t.count t.cells
+abbrev pub holes_of : Holes → List Hole
+holes_of = entries
 
-unfoldable pub pack_holes : List Hole → Holes
-pack_holes l = record { cells = packed HOLES empty_hole l; count = length l }
+abbrev pub pack_holes : List Hole → Holes
+pack_holes = pack empty_hole
 
-unfoldable pub zombies_of : Zombies → List Zombie
-zombies_of t = take t.count t.cells
+abbrev pub zombies_of : Zombies → List Zombie
+zombies_of = entries
 
-unfoldable pub pack_zombies : List Zombie → Zombies
-pack_zombies l = record { cells = packed ZOMBIES empty_zombie l; count = length l }
+abbrev pub pack_zombies : List Zombie → Zombies
+pack_zombies = pack empty_zombie
 
-unfoldable pub pages_of : Pages → List Page
-pages_of t = take t.count t.cells
+abbrev pub pages_of : Pages → List Page
+pages_of = entries
 
-unfoldable pub pack_pages : List Page → Pages
-pack_pages l = record { cells = packed PAGES empty_page l; count = length l }
+abbrev pub pack_pages : List Page → Pages
+pack_pages = pack empty_page
 
-unfoldable pub roots_of : Roots → List Address
-roots_of t = take t.count t.cells
+abbrev pub roots_of : Roots → List Address
+roots_of = entries
 
-unfoldable pub pack_roots : List Address → Roots
-pack_roots l = record { cells = packed ROOTS empty_root l; count = length l }
+abbrev pub pack_roots : List Address → Roots
+pack_roots = pack empty_root
 
 -- The tables of a pool.
 unfoldable pub tables_of : Pool → Tables

@@ -3,9 +3,10 @@
 
 ghost use Rattle.std.specs.Prelude.{◌≡◌};
 ghost use Rattle.tables.specs.Outcomes.{answers, numbers};
-ghost use Rattle.tables.specs.Values.{closed_pool};
+ghost use Rattle.tables.specs.Values.{closed_pool, empty_region, empty_buffer, empty_hole, empty_zombie, empty_page};
 ghost use Rattle.tables.specs.WellFormed.{ceilings_kept};
 
+use cells::{Entry, Table};
 use words::{Address, EventId, Handle};
 
 // A free region: the last event of its pages, and the stream that it is on.
@@ -51,87 +52,116 @@ pub struct Page {
     pub handle: Handle,
 }
 
-// The cell of each table that no entry uses.
-impl FreeRegion {
-    pub const EMPTY: FreeRegion = FreeRegion {
+impl Entry for FreeRegion {
+    const EMPTY: FreeRegion = FreeRegion {
         start: Address(0),
         size: 0,
         stream: 0,
         id: EventId(0),
     };
+
+    ghost EMPTY = { empty_region };
+
+    ghost key = { λ r. r.start.0 };
+
+    fn key(self) -> u64 {
+        self.start.0
+    }
+
+    fn bits(self) -> u64 {
+        self.start.0 | self.size | self.stream | self.id.0
+    }
 }
 
-impl LiveBuffer {
-    pub const EMPTY: LiveBuffer = LiveBuffer {
+impl Entry for LiveBuffer {
+    const EMPTY: LiveBuffer = LiveBuffer {
         start: Address(0),
         size: 0,
         stream: 0,
     };
+
+    ghost EMPTY = { empty_buffer };
+
+    ghost key = { λ b. b.start.0 };
+
+    fn key(self) -> u64 {
+        self.start.0
+    }
+
+    fn bits(self) -> u64 {
+        self.start.0 | self.size | self.stream
+    }
 }
 
-impl Hole {
-    pub const EMPTY: Hole = Hole {
+impl Entry for Hole {
+    const EMPTY: Hole = Hole {
         start: Address(0),
         size: 0,
     };
+
+    ghost EMPTY = { empty_hole };
+
+    ghost key = { λ h. h.start.0 };
+
+    fn key(self) -> u64 {
+        self.start.0
+    }
+
+    fn bits(self) -> u64 {
+        self.start.0 | self.size
+    }
 }
 
-impl Zombie {
-    pub const EMPTY: Zombie = Zombie {
+impl Entry for Zombie {
+    const EMPTY: Zombie = Zombie {
         start: Address(0),
         size: 0,
         id: EventId(0),
     };
+
+    ghost EMPTY = { empty_zombie };
+
+    ghost key = { λ z. z.start.0 };
+
+    fn key(self) -> u64 {
+        self.start.0
+    }
+
+    fn bits(self) -> u64 {
+        self.start.0 | self.size | self.id.0
+    }
 }
 
-impl Page {
-    pub const EMPTY: Page = Page {
+impl Entry for Page {
+    const EMPTY: Page = Page {
         start: Address(0),
         handle: Handle(0),
     };
+
+    ghost EMPTY = { empty_page };
+
+    ghost key = { λ g. g.start.0 };
+
+    fn key(self) -> u64 {
+        self.start.0
+    }
+
+    fn bits(self) -> u64 {
+        self.start.0 | self.handle.0
+    }
 }
 
-#[repr(C)]
-#[derive(Clone, Copy)]
-pub struct FreeRegions {
-    pub cells: [FreeRegion; Pool::SPANS],
-    pub count: usize,
-}
+pub type FreeRegions = Table<FreeRegion, { Pool::SPANS }>;
 
-#[repr(C)]
-#[derive(Clone, Copy)]
-pub struct LiveBuffers {
-    pub cells: [LiveBuffer; Pool::SPANS],
-    pub count: usize,
-}
+pub type LiveBuffers = Table<LiveBuffer, { Pool::SPANS }>;
 
-#[repr(C)]
-#[derive(Clone, Copy)]
-pub struct Holes {
-    pub cells: [Hole; Pool::HOLES],
-    pub count: usize,
-}
+pub type Holes = Table<Hole, { Pool::HOLES }>;
 
-#[repr(C)]
-#[derive(Clone, Copy)]
-pub struct Zombies {
-    pub cells: [Zombie; Pool::ZOMBIES],
-    pub count: usize,
-}
+pub type Zombies = Table<Zombie, { Pool::ZOMBIES }>;
 
-#[repr(C)]
-#[derive(Clone, Copy)]
-pub struct Pages {
-    pub cells: [Page; Pool::PAGES],
-    pub count: usize,
-}
+pub type Pages = Table<Page, { Pool::PAGES }>;
 
-#[repr(C)]
-#[derive(Clone, Copy)]
-pub struct Roots {
-    pub cells: [Address; Pool::ROOTS],
-    pub count: usize,
-}
+pub type Roots = Table<Address, { Pool::ROOTS }>;
 
 // `state` is 0 closed, 1 open, 2 stopped; `page` is the page size, `va` the size of each root, `counter` the next event id.
 #[repr(C)]
@@ -179,47 +209,23 @@ impl Pool {
     pub fn closed() -> Pool
         ensures { result ≡ closed_pool }
     {
-        let free = FreeRegions {
-            cells: [FreeRegion::EMPTY; Pool::SPANS],
-            count: 0,
-        };
-        let live = LiveBuffers {
-            cells: [LiveBuffer::EMPTY; Pool::SPANS],
-            count: 0,
-        };
-        let holes = Holes {
-            cells: [Hole::EMPTY; Pool::HOLES],
-            count: 0,
-        };
-        let zombies = Zombies {
-            cells: [Zombie::EMPTY; Pool::ZOMBIES],
-            count: 0,
-        };
-        let pages = Pages {
-            cells: [Page::EMPTY; Pool::PAGES],
-            count: 0,
-        };
-        let roots = Roots {
-            cells: [Address(0); Pool::ROOTS],
-            count: 0,
-        };
         Pool {
             state: 0,
             page: 0,
             va: 0,
             counter: 0,
-            free,
-            live,
-            holes,
-            zombies,
-            pages,
-            roots,
+            free: Table::empty(),
+            live: Table::empty(),
+            holes: Table::empty(),
+            zombies: Table::empty(),
+            pages: Table::empty(),
+            roots: Table::empty(),
         }
     }
 
     // docs/RULES.md 5.1: the counts. They are any numbers, so no two are added.
-    pub fn ceilings_kept(self) -> bool
-        ensures { result ≡ ceilings_kept self }
+    pub fn ceilings_kept(&self) -> bool
+        ensures { result ≡ ceilings_kept self.now }
     {
         if Pool::PAGES < self.pages.count {
             return false;
@@ -238,13 +244,6 @@ impl Pool {
         }
         self.roots.count <= Pool::ROOTS
     }
-}
-
-// The place of an entry in a table, or none.
-#[derive(Clone, Copy)]
-pub enum Choice {
-    At(usize),
-    Nothing,
 }
 
 // What a call answers.

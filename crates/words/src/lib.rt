@@ -6,17 +6,35 @@ ghost use Rattle.words.specs.Words.{number as number_of};
 ghost use Rattle.words.specs.Answers.{of_pair, lent, code_of, value_of, taken_after, moved_on};
 ghost use Rattle.words.specs.Log.{written};
 
+use cells::Entry;
+
 #[repr(C)]
-#[derive(Clone, Copy)]
+#[derive(Clone, Copy, PartialEq, Eq)]
 pub struct Address(pub u64);
+
+impl Entry for Address {
+    const EMPTY: Address = Address(0);
+
+    ghost EMPTY = { record { 0 = 0 } };
+
+    ghost key = { λ a. a.0 };
+
+    fn key(self) -> u64 {
+        self.0
+    }
+
+    fn bits(self) -> u64 {
+        self.0
+    }
+}
 
 // A page of the card's memory, wherever it is mapped.
 #[repr(C)]
-#[derive(Clone, Copy)]
+#[derive(Clone, Copy, PartialEq, Eq)]
 pub struct Handle(pub u64);
 
 #[repr(C)]
-#[derive(Clone, Copy)]
+#[derive(Clone, Copy, PartialEq, Eq)]
 pub struct EventId(pub u64);
 
 // The driver's calls.

@@ -1,129 +1,162 @@
 -- `step_cleanup::cleanup` meets its contract. The invariant: what the rest of the walk does from here, the whole walk does, and what is held is sound.
-use mathlib.Core.Path.{◌≡◌, refl, ap, ◌∙◌}
+use mathlib.Core.Path.{◌≡◌, ap, ◌∙◌}
+use mathlib.Core.Bool.{Bool, true, false}
 use Prim.Native.Nat.{◌+◌, ◌-◌, ◌<◌}
-use mathlib.Core.Bool.{true}
 use native.Mathlib.Omega.{arith}
+use native.Mathlib.Numerals.{unary_clauses}
 use lib.ListN.{length, get_or}
+use Rattle.std.proofs.lemmas.Result.{err_from_is_err_and}
+use Rattle.words.specs.declared.Word.TheVariants.{Unmap}
 use Rattle.tables.specs.Values.{Tables, zombies_of, empty_zombie}
-use Rattle.tables.specs.Steps.{on}
-use Rattle.tables.specs.Driver.{is_complete}
+use Rattle.tables.specs.Steps.{Ending, on}
+use Rattle.tables.specs.Driver.{is_complete, try}
 use Rattle.tables.specs.Cleanup.{cleanup}
 use Rattle.tables.proofs.Packs.{zombies-count, zombies_cell}
-use Rattle.driving.specs.Ran.{Ran, point}
-use Rattle.driving.specs.Endings.{ending, asked_ending}
+use Rattle.driving.specs.Ran.{Ran, Lent, stands}
+use Rattle.driving.specs.Endings.{ending}
+use Rattle.driving.specs.Promises.{telling}
+use Rattle.driving.proofs.Lent.{lent-same, lent-then}
 use Rattle.driving.proofs.Ran.{next, gave, looked}
 use Rattle.step_cleanup.specs.Promises.{cleaning}
 use Rattle.step_cleanup.proofs.Turns.{walk_out, walk-on, walk-clean, walk-stop}
 use Rattle.step_cleanup.proofs.Sounds.{it-ends, room}
 use Rattle.step_cleanup.proofs.Cleans.{kept-left, count_left, cleanable-left, cleans-stop, cleans-on}
 use Rattle.step_cleanup.proofs.cleanup.Goals as goal
-use Rattle.step_cleanup.proofs.cleanup.Goals.{After-is_complete-asked, After-try_tell-ended}
+use Rattle.step_cleanup.proofs.cleanup.Goals.{In-loop-at, After-is_complete, After-try_tell}
 
 -- the zombie at the place is left to be asked
-some_left : (c : After-is_complete-asked) → 0 < length (zombies_of c.loop-i.zs) - c.loop-i.i
-some_left c = omega (arith, c.loop-i-test.true, zombies-count c.loop-i.zs c.loop-i.invariant.1.zombies)
+some_left : (c : In-loop-at) → 0 < length (zombies_of c.loop-at.zombies) - c.loop-at.at
+some_left c = omega (arith, c.loop-at-test.true, zombies-count c.loop-at.zombies c.loop-at.invariant.able.zombies)
 
 -- what `is_complete` said, of the walk's own zombie
-asked : (c : After-is_complete-asked) (t : Tables) →
-    Ran (is_complete (get_or (zombies_of c.loop-i.zs) c.loop-i.i empty_zombie).id.0) c.args.answers.now
-    (point c.loop-i.n (cleaning c.loop-i.zs c.loop-i.hs t) c.loop-i.log) (asked_ending c.is_complete-asked.result)
-    (point (c.loop-i.n + 1) (cleaning c.loop-i.zs c.loop-i.hs t) c.is_complete-asked.new.log)
-asked c t =
-    rw (← zombies_cell c.loop-i.zs c.loop-i.i c.loop-i-test.true) at
-    (c.is_complete-asked.ensures (cleaning c.loop-i.zs c.loop-i.hs t))
+asked : (c : After-is_complete) {a : Ending Bool} → ending c.is_complete.result ≡ a → (t : Tables) →
+    Ran (is_complete (get_or (zombies_of c.loop-at.zombies) c.loop-at.at empty_zombie).id.0) c.args.driver.now.answers.now
+    (stands c.loop-at.driver (cleaning c.loop-at.zombies c.loop-at.holes t)) a
+    (stands c.is_complete.new.self (cleaning c.loop-at.zombies c.loop-at.holes t))
+asked c e t =
+    rw (e, ← zombies_cell c.loop-at.zombies c.loop-at.at c.loop-at-test.true, c.loop-at.invariant.lent.answers) at
+    (c.is_complete.ensures.ran (cleaning c.loop-at.zombies c.loop-at.holes t))
+
+pub loop-at-init : goal.loop-at-init
+loop-at-init c =
+    record { place = omega arith; able = c.requires.0; lent = lent-same c.args.driver.now; most = omega arith; whole = λ t e u r. simp unary_clauses at r }
+
+pub returns-in_err-is_complete : goal.returns-in_err-is_complete
+unfolding cleanup
+returns-in_err-is_complete c =
+    let p = err_from_is_err_and c.from_residual.result c.from_residual.ensures.1 in
+    let at = goal.at.returns-in_err-is_complete c in
+    let v = c.loop-at.invariant in
+    let said = asked at.After-is_complete (ap ending c.in_err-is_complete.was) in
+    rw (p.1, p.2)
+    (record {
+      lent = lent-then v.lent c.is_complete.ensures.lent;
+      ran = λ t. next _ looked (v.whole t _ _ (walk_out _ c.loop-at.at (some_left at.In-loop-at) (said t)));
+      zombies = v.able.zombies;
+      holes = v.able.holes;
+      most = omega (arith, v.most, c.loop-at-test.true, c.is_complete.ensures.made);
+    })
 
 -- it is complete, where the range is unmapped
-complete : (c : After-try_tell-ended) → asked_ending c.is_complete-asked.result ≡ on true
-complete c = ap asked_ending c.in-Complete.is ∙ ap on c.if-complete.true
+module _ (c : After-try_tell) where
+  complete : ending c.is_complete.result ≡ on true
+  complete = ap ending c.in_ok-is_complete.was ∙ ap on c.if-branch.true
 
-pub returns-in_default : goal.returns-in_default
+  told : (t : Tables) →
+      let z = get_or c.loop-at.zombies.cells c.loop-at.at empty_zombie in
+      Ran (try (telling Unmap z.start.0 z.size)) c.args.driver.now.answers.now (stands c.is_complete.new.self t) (ending c.try_tell.result) (stands c.try_tell.new.self t)
+  told t = rw (c.is_complete.ensures.lent.answers, c.loop-at.invariant.lent.answers) at (c.try_tell.ensures.ran t)
+
+  lent : Lent c.args.driver.now c.try_tell.new.self
+  lent = lent-then c.loop-at.invariant.lent (lent-then c.is_complete.ensures.lent c.try_tell.ensures.lent)
+
+pub returns-in_err-try_tell : goal.returns-in_err-try_tell
 unfolding cleanup
-returns-in_default c =
-    let q = (goal.at.returns-in_default c).After-is_complete-asked in
-    record {
-      ran = λ t. next _ looked (c.loop-i.invariant.4 t _ _ (walk_out _ c.loop-i.i (some_left q) (asked q t) (ap asked_ending c.in_default.is)));
-      zombies = c.loop-i.invariant.1.zombies;
-      holes = c.loop-i.invariant.1.holes;
-      most = omega (arith, c.loop-i.invariant.3, c.loop-i-test.true);
-    }
+returns-in_err-try_tell c =
+    let p = err_from_is_err_and c.from_residual-in_err-try_tell.result c.from_residual-in_err-try_tell.ensures.1 in
+    let at = goal.at.returns-in_err-try_tell c in
+    let v = c.loop-at.invariant in
+    let b = c.loop-at-test.true in
+    let said = asked at.After-is_complete (complete at.After-try_tell) in
+    let stopped = ap ending c.in_err-try_tell.was in
+    rw (p.1, p.2)
+    (record {
+      lent = lent at.After-try_tell;
+      ran = λ t. next _ looked (v.whole t _ _
+          (walk-stop _ c.loop-at.at (some_left at.In-loop-at) (said t)
+          (cleans-stop v.able b c.swap_out.ensures c.is_complete.new.self c.try_tell.new.self (told at.After-try_tell) t stopped)));
+      zombies = kept-left v.able b c.swap_out.ensures;
+      holes = v.able.holes;
+      most = omega (arith, v.most, b, c.is_complete.ensures.made, c.try_tell.ensures.made);
+    })
 
-pub returns-in_default-ended : goal.returns-in_default-ended
-unfolding cleanup
-returns-in_default-ended c =
-    let w = (goal.at.returns-in_default-ended c).After-try_tell-ended in
-    let q = (goal.at.returns-in_default-ended c).After-is_complete-asked in
-    let k = c.loop-i.invariant.1 in
-    let b = c.loop-i-test.true in
-    let out = c.swap_out-zs.ensures in
-    let f = ap ending c.in_default-ended.is in
-    record {
-      ran = λ t. next _ looked (c.loop-i.invariant.4 t _ _
-          (walk-stop _ c.loop-i.i (some_left q) (asked q t) (complete w) (cleans-stop k b out c.try_tell-ended.ensures t f) f));
-      zombies = kept-left k b out;
-      holes = k.holes;
-      most = omega (arith, c.loop-i.invariant.3, b);
-    }
-
-pub insert_hole-hs-requires : goal.insert_hole-hs-requires
-insert_hole-hs-requires c =
-    let k = c.loop-i.invariant.1 in
-    let b = c.loop-i-test.true in
-    let z = c.loop-i.zs in
-    let h = c.loop-i.hs in
-    let i = c.loop-i.i in
+pub insert_hole-requires : goal.insert_hole-requires
+insert_hole-requires c =
+    let k = c.loop-at.invariant.able in
+    let b = c.loop-at-test.true in
+    let z = c.loop-at.zombies in
+    let h = c.loop-at.holes in
+    let i = c.loop-at.at in
     record {
       kept_holes = (k.holes, room z h i k b);
       apart = (k.kept.sound.holes_apart, rw (← zombies_cell z i b) (it-ends z h i k b));
     }
 
-pub loop-i-smaller-then-complete : goal.loop-i-smaller-then-complete
-loop-i-smaller-then-complete c =
-    let b = c.loop-i-test.true in
-    omega (arith, count_left c.loop-i.invariant.1 b c.swap_out-zs.ensures, b)
+pub loop-at-smaller-then-branch : goal.loop-at-smaller-then-branch
+loop-at-smaller-then-branch c =
+    let b = c.loop-at-test.true in
+    omega (arith, count_left c.loop-at.invariant.able b c.swap_out.ensures, b)
 
-pub loop-i-preserved-then-complete : goal.loop-i-preserved-then-complete
-loop-i-preserved-then-complete c =
-    let w = (goal.at.loop-i-preserved-then-complete c).After-try_tell-ended in
-    let q = (goal.at.loop-i-preserved-then-complete c).After-is_complete-asked in
-    let i = c.loop-i.i in
-    let k = c.loop-i.invariant.1 in
-    let b = c.loop-i-test.true in
-    let left = c.swap_out-zs.result in
-    let out = c.swap_out-zs.ensures in
-    let put = c.insert_hole-hs.ensures in
-    let fewer = count_left k b out in
-    let went_on = ap ending c.in-On.is in
-    let shorter : length (zombies_of left) - i ≡ length (zombies_of c.loop-i.zs) - i - 1 =
-    omega (arith, fewer, zombies-count left (kept-left k b out), zombies-count c.loop-i.zs k.zombies) in (
-      omega (arith, fewer, b),
-      cleanable-left k b out put,
-      omega (arith, c.loop-i.invariant.2, c.is_complete-asked.auto.log, c.try_tell-ended.auto.log),
-      omega (arith, fewer, c.loop-i.invariant.3, b),
-      λ t e u r. c.loop-i.invariant.4 t e u
-          (walk-clean _ i (some_left q) (asked q t) (complete w) (cleans-on k b out c.try_tell-ended.ensures t put went_on) refl (rw shorter at r)),
-    )
+pub loop-at-preserved-then-branch : goal.loop-at-preserved-then-branch
+loop-at-preserved-then-branch c =
+    let at = goal.at.loop-at-preserved-then-branch c in
+    let v = c.loop-at.invariant in
+    let i = c.loop-at.at in
+    let b = c.loop-at-test.true in
+    let left = c.swap_out.new.self in
+    let out = c.swap_out.ensures in
+    let put = c.insert_hole.ensures in
+    let fewer = count_left v.able b out in
+    let said = asked at.After-is_complete (complete at.After-try_tell) in
+    let went_on = ap ending c.in_ok-try_tell.was in
+    let shorter : length (zombies_of left) - i ≡ length (zombies_of c.loop-at.zombies) - i - 1 =
+    omega (arith, fewer, zombies-count left (kept-left v.able b out), zombies-count c.loop-at.zombies v.able.zombies) in
+    record {
+      place = omega (arith, fewer, b);
+      able = cleanable-left v.able b out put;
+      lent = lent at.After-try_tell;
+      most = omega (arith, fewer, v.most, b, c.is_complete.ensures.made, c.try_tell.ensures.made);
+      whole = λ t e u r. v.whole t e u
+          (walk-clean _ i (some_left at.In-loop-at) (said t)
+          (cleans-on v.able b out c.is_complete.new.self c.try_tell.new.self (told at.After-try_tell) t put went_on) (rw shorter at r));
+    }
 
-pub loop-i-preserved : goal.loop-i-preserved
-loop-i-preserved c =
-    let q = (goal.at.loop-i-preserved c).After-is_complete-asked in
-    let i = c.loop-i.i in
-    let b = c.loop-i-test.true in
-    let not_yet = ap asked_ending c.in-Complete.is ∙ ap on c.if-complete.false in
-    let shorter : length (zombies_of c.loop-i.zs) - (i + 1) ≡ length (zombies_of c.loop-i.zs) - i - 1 = omega arith in (
-      omega (arith, b),
-      c.loop-i.invariant.1,
-      omega (arith, c.loop-i.invariant.2, c.is_complete-asked.auto.log),
-      omega (arith, c.loop-i.invariant.3, b),
-      λ t e u r. c.loop-i.invariant.4 t e u (walk-on _ i (some_left q) (asked q t) not_yet (rw shorter at r)),
-    )
+pub loop-at-preserved : goal.loop-at-preserved
+loop-at-preserved c =
+    let at = goal.at.loop-at-preserved c in
+    let v = c.loop-at.invariant in
+    let i = c.loop-at.at in
+    let b = c.loop-at-test.true in
+    let not_yet : ending c.is_complete.result ≡ on false = ap ending c.in_ok-is_complete.was ∙ ap on c.if-branch.false in
+    let said = asked at.After-is_complete not_yet in
+    let shorter : length (zombies_of c.loop-at.zombies) - (i + 1) ≡ length (zombies_of c.loop-at.zombies) - i - 1 = omega arith in
+    record {
+      place = omega (arith, b);
+      able = v.able;
+      lent = lent-then v.lent c.is_complete.ensures.lent;
+      most = omega (arith, v.most, b, c.is_complete.ensures.made);
+      whole = λ t e u r. v.whole t e u (walk-on _ i (some_left at.In-loop-at) (said t) (rw shorter at r));
+    }
 
 pub returns : goal.returns
 unfolding cleanup
 returns c =
-    let none : length (zombies_of c.loop-i.zs) - c.loop-i.i ≡ 0 = omega (arith, zombies-count c.loop-i.zs c.loop-i.invariant.1.zombies) in
+    let v = c.loop-at.invariant in
+    let none : length (zombies_of c.loop-at.zombies) - c.loop-at.at ≡ 0 = omega (arith, zombies-count c.loop-at.zombies v.able.zombies) in
     record {
-      ran = λ t. next _ looked (c.loop-i.invariant.4 t _ _ (rw none gave));
-      zombies = c.loop-i.invariant.1.zombies;
-      holes = c.loop-i.invariant.1.holes;
-      most = omega arith;
+      lent = v.lent;
+      ran = λ t. next _ looked (v.whole t _ _ (rw none gave));
+      zombies = v.able.zombies;
+      holes = v.able.holes;
+      most = omega (arith, v.most);
     }

@@ -1,50 +1,17 @@
--- `step_close::close_pages` meets its contract. The invariant: what closing the pages that are left does from here, closing the pages all does.
-use mathlib.Core.Path.{◌≡◌}
-use mathlib.Core.List.{◌∷◌}
-use Prim.Native.Nat.{◌+◌}
+-- `step_close::close_pages` meets its contract. The invariant: what those left do from here, all do.
 use native.Mathlib.Omega.{arith}
-use borrow.Author.Rules.{rules}
-use lib.ListN.{get_or, drop}
-use Rattle.tables.specs.Values.{page as no_page, pages_of}
-use Rattle.step_close.proofs.Turns.{not-ends, some_left, none_left, leads_done, leads-next, leads-stop}
+use Rattle.std.proofs.lemmas.Result.{err_from_is_err_and}
+use Rattle.tables.specs.Values.{empty_page}
+use Rattle.step_close.proofs.Turns.{stands_done, stands-next, stands-stop}
 use Rattle.step_close.proofs.close_pages.Goals as goal
 
-pub returns-in_default : goal.returns-in_default
-unfolding pages_of
-returns-in_default c =
-    let t = c.args.pages in
-    let i = c.loop-i.i in
-    let more : drop i (pages_of t) ≡ get_or t.cells i (no_page 0 0) ∷ drop (i + 1) (pages_of t) = some_left c.requires.0 i c.loop-i-test.true in
-    let v = c.loop-i.invariant in
-    let m = c.close_page-told.ensures in
-    record {
-      ran = leads-stop more v.4 m c.in_default.is;
-      only = m.only;
-      most = omega (arith, m.most, v.2, c.loop-i-test.true);
-      few = m.few;
-    }
+pub returns-in_err-close_page : goal.returns-in_err-close_page
+returns-in_err-close_page c =
+    let p = err_from_is_err_and c.from_residual.result c.from_residual.ensures.1 in
+    rw (p.1, p.2) (stands-stop c.loop-g.invariant empty_page c.loop-g-test.true (omega arith) c.in_err-close_page.ensures)
 
-pub loop-i-preserved : goal.loop-i-preserved
-unfolding pages_of
-loop-i-preserved c =
-    let t = c.args.pages in
-    let i = c.loop-i.i in
-    let more : drop i (pages_of t) ≡ get_or t.cells i (no_page 0 0) ∷ drop (i + 1) (pages_of t) = some_left c.requires.0 i c.loop-i-test.true in
-    let v = c.loop-i.invariant in
-    let m = c.close_page-told.ensures in (
-      search rules,
-      m.few,
-      omega (arith, m.most, v.2),
-      omega (arith, c.loop-i-test.true),
-      leads-next more v.4 m c.in-On.is,
-    )
+pub loop-g-preserved : goal.loop-g-preserved
+loop-g-preserved c = stands-next c.loop-g.invariant empty_page c.loop-g-test.true c.in_ok-close_page.ensures
 
 pub returns : goal.returns
-unfolding pages_of
-returns c =
-    record {
-      ran = leads_done (none_left c.requires.0 c.loop-i.i (omega (arith, c.loop-i-test.false))) c.loop-i.invariant.4;
-      only = λ o e. not-ends e;
-      most = omega (arith, c.loop-i.invariant.2, c.loop-i.invariant.3);
-      few = c.loop-i.invariant.1;
-    }
+returns c = stands_done c.loop-g.invariant (omega arith) (omega arith) (omega arith)

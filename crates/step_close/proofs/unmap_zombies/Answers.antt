@@ -1,51 +1,20 @@
--- `step_close::unmap_zombies` meets its contract. The invariant: what unmapping the zombies that are left does from here, unmapping the zombies all does.
-use mathlib.Core.Path.{◌≡◌}
-use mathlib.Core.List.{◌∷◌}
-use Prim.Native.Nat.{◌+◌}
+-- `step_close::unmap_zombies` meets its contract. The invariant: what those left do from here, all do.
 use native.Mathlib.Omega.{arith}
-use borrow.Author.Rules.{rules}
-use lib.ListN.{get_or, drop}
-use Rattle.tables.specs.Values.{zombies_of, empty_zombie}
+use Rattle.std.proofs.lemmas.Result.{err_from_is_err_and}
+use Rattle.tables.specs.Values.{empty_zombie}
 use Rattle.tables.specs.Driver.{unmap}
-use Rattle.step_close.proofs.Turns.{not-ends, some_left, none_left, leads_done, leads-next, leads-stop}
+use Rattle.step_close.proofs.Turns.{stands_done, stands-next, stands-stop}
 use Rattle.step_close.proofs.unmap_zombies.Goals as goal
 
-pub returns-in_default : goal.returns-in_default
-unfolding unmap zombies_of
-returns-in_default c =
-    let t = c.args.zombies in
-    let i = c.loop-i.i in
-    let more : drop i (zombies_of t) ≡ get_or t.cells i empty_zombie ∷ drop (i + 1) (zombies_of t) = some_left c.requires.0 i c.loop-i-test.true in
-    let v = c.loop-i.invariant in
-    let m = c.count_tell-told.ensures in
-    record {
-      ran = leads-stop more v.4 m c.in_default.is;
-      only = m.only;
-      most = omega (arith, m.most, v.2, c.loop-i-test.true);
-      few = m.few;
-    }
+pub returns-in_err-count_tell : goal.returns-in_err-count_tell
+unfolding unmap
+returns-in_err-count_tell c =
+    let p = err_from_is_err_and c.from_residual.result c.from_residual.ensures.1 in
+    rw (p.1, p.2) (stands-stop c.loop-z.invariant empty_zombie c.loop-z-test.true (omega arith) c.in_err-count_tell.ensures)
 
-pub loop-i-preserved : goal.loop-i-preserved
-unfolding unmap zombies_of
-loop-i-preserved c =
-    let t = c.args.zombies in
-    let i = c.loop-i.i in
-    let more : drop i (zombies_of t) ≡ get_or t.cells i empty_zombie ∷ drop (i + 1) (zombies_of t) = some_left c.requires.0 i c.loop-i-test.true in
-    let v = c.loop-i.invariant in
-    let m = c.count_tell-told.ensures in (
-      search rules,
-      m.few,
-      omega (arith, m.most, v.2),
-      omega (arith, c.loop-i-test.true),
-      leads-next more v.4 m c.in-On.is,
-    )
+pub loop-z-preserved : goal.loop-z-preserved
+unfolding unmap
+loop-z-preserved c = stands-next c.loop-z.invariant empty_zombie c.loop-z-test.true c.in_ok-count_tell.ensures
 
 pub returns : goal.returns
-unfolding zombies_of
-returns c =
-    record {
-      ran = leads_done (none_left c.requires.0 c.loop-i.i (omega (arith, c.loop-i-test.false))) c.loop-i.invariant.4;
-      only = λ o e. not-ends e;
-      most = omega (arith, c.loop-i.invariant.2, c.loop-i.invariant.3);
-      few = c.loop-i.invariant.1;
-    }
+returns c = stands_done c.loop-z.invariant (omega arith) (omega arith) (omega arith)

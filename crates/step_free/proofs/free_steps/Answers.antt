@@ -1,32 +1,66 @@
--- `step_free::free_steps` meets its contract: it takes the buffer out and inserts its range, as the rule does. The invariant: with the free place taken
--- out, the cells are those of the entry without the one at `at`.
-use mathlib.Core.Path.{◌≡◌, ◌∙◌}
-use Prim.Native.Nat.{◌-◌}
-use native.Mathlib.Omega.{arith}
-use borrow.Author.Rules.{rules}
-use Rattle.lists.proofs.Places.{shift_down}
-use Rattle.tables.specs.Values.{tables_of, empty_buffer}
+-- `step_free::free_steps` meets its contract: it takes the buffer out and inserts its range, as the rule does.
+use mathlib.Core.Path.{refl}
+use lib.ListN.{get_or}
+use Rattle.std.proofs.lemmas.Result.{err_from_is_err_and}
+use Rattle.lists.specs.Order.{without}
+use Rattle.tables.specs.Values.{live_of, tables_of, with_live, empty_buffer}
 use Rattle.tables.proofs.Packs.{live_cell}
-use Rattle.step_free.proofs.Sounds.{insertable}
-use Rattle.step_free.proofs.Taking.{taken_out}
-use Rattle.step_free.proofs.Ways.{steps-left}
+use Rattle.step_free.proofs.Sounds.{insertable, others_are, others-kept}
+use Rattle.step_free.proofs.Ways.{freed, freed-stop}
 use Rattle.step_free.proofs.free_steps.Goals as goal
 
-pub loop-i-preserved : goal.loop-i-preserved
-loop-i-preserved c =
-    let v = c.loop-i in
-    ((search rules, search rules), (search rules, shift_down v.others.cells v.i empty_buffer (omega arith) ∙ v.invariant.1.1))
+pub insert_free-requires : goal.insert_free-requires
+insert_free-requires c =
+    (rw (← live_cell c.args.pool.now.live c.args.at c.requires.0.placed) (insertable c.requires.0), c.requires.1)
 
-pub insert_free-inserted-requires : goal.insert_free-inserted-requires
-insert_free-inserted-requires c =
-    (rw (← live_cell c.args.live c.args.at c.requires.0.placed) (insertable c.requires.0), search rules)
+pub returns-in_err-insert_free : goal.returns-in_err-insert_free
+unfolding tables_of
+returns-in_err-insert_free c =
+    let h = c.requires.0 in
+    let p = c.args.pool.now in
+    let z = get_or p.live.cells c.args.at empty_buffer in
+    let t = with_live (without (λ y. y.start.0) z.start.0 (live_of p.live)) (tables_of p) in
+    let taken = c.remove_at.ensures in
+    let r = err_from_is_err_and c.from_residual.result c.from_residual.ensures.1 in
+    let d = c.in_err-insert_free.ensures in
+    rw (r.1, r.2)
+    (record {
+      lent = d.lent;
+      ran = rw (others_are h c.remove_at.new.self taken, live_cell p.live c.args.at h.placed) (freed-stop z (d.ran t));
+      kept =
+          record {
+            free = d.free;
+            live = others-kept h c.remove_at.new.self taken;
+            holes = h.tables.holes;
+            zombies = h.tables.zombies;
+            pages = h.tables.pages;
+            roots = h.tables.roots;
+          };
+      state = refl;
+      most = d.most;
+    })
 
 pub returns : goal.returns
 unfolding tables_of
 returns c =
-    let w = c.loop-i in
-    let a = c.args in
     let h = c.requires.0 in
-    let e : w.i ≡ a.live.count - 1 = omega arith in
-    let t = taken_out a.live a.at h.tables.live h.placed w.others.cells h.kept.sound.live_rises w.invariant.1.0 (rw e at w.invariant.1.1) in
-    steps-left h t c.insert_free-inserted.ensures _ c.outcome_of-outcome.ensures
+    let p = c.args.pool.now in
+    let z = get_or p.live.cells c.args.at empty_buffer in
+    let t = with_live (without (λ y. y.start.0) z.start.0 (live_of p.live)) (tables_of p) in
+    let taken = c.remove_at.ensures in
+    let d = c.in_ok-insert_free.ensures in
+    record {
+      lent = d.lent;
+      ran = rw (others_are h c.remove_at.new.self taken, live_cell p.live c.args.at h.placed) (freed z _ (d.ran t));
+      kept =
+          record {
+            free = d.free;
+            live = others-kept h c.remove_at.new.self taken;
+            holes = h.tables.holes;
+            zombies = h.tables.zombies;
+            pages = h.tables.pages;
+            roots = h.tables.roots;
+          };
+      state = refl;
+      most = d.most;
+    }

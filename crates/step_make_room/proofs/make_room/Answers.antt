@@ -1,57 +1,47 @@
 -- `step_make_room::make_room` meets its contract: its parts are those of the rule in order.
 use Prim.Native.Nat.{◌<◌}
 use native.Mathlib.Omega.{arith}
-use Rattle.step_make_room.proofs.Ways.{fillable-all, filled-all, insertable, new-stopped, new-enough, fillable-rest, filled-rest}
+use Rattle.std.proofs.lemmas.Result.{err_from_is_err_and}
+use Rattle.driving.proofs.Lent.{lent-then, room-left}
+use Rattle.step_make_room.proofs.Ways.{take-stopped, fillable-all, filled-all, insertable, new-stopped, new-enough, fillable-rest, filled-rest}
 use Rattle.step_make_room.proofs.make_room.Goals as goal
 
+pub returns-in_err-room : goal.returns-in_err-room
+returns-in_err-room c =
+    let p = err_from_is_err_and c.from_residual.result c.from_residual.ensures.1 in
+    rw (p.1, p.2) (take-stopped c.requires.0 c.in_err-room.ensures)
+
 pub pull_in-requires : goal.pull_in-requires
-pull_in-requires c = (
-  fillable-all c.requires.0 c.take_room-taken.ensures c.in-On.is c.if-room-eq0.true,
-  omega (arith, c.requires.1, c.take_room-taken.ensures.most, c.take_room-taken.auto.log),
-)
+pull_in-requires c =
+    let w = c.in_ok-room.ensures in
+    (fillable-all c.requires.0 w c.if-room-eq0.true, omega (arith, c.requires.1, w.most, w.lent.cells))
 
 pub returns-then-room-eq0 : goal.returns-then-room-eq0
-returns-then-room-eq0 c =
-    filled-all c.requires.0 c.take_room-taken.ensures c.in-On.is c.if-room-eq0.true c.pull_in.result _
-    c.pull_in.ensures
+returns-then-room-eq0 c = filled-all c.requires.0 c.in_ok-room.ensures c.if-room-eq0.true c.pull_in.ensures
 
-pub insert_new-newly-requires : goal.insert_new-newly-requires
-insert_new-newly-requires c =
-    let some-missing : 0 < c.take_room-taken.result.room.missing = omega (arith, c.if-room-eq0.false) in (
-      insertable c.requires.0 c.take_room-taken.ensures c.in-On.is some-missing,
-      omega (arith, c.requires.1, c.take_room-taken.ensures.most, c.take_room-taken.auto.log),
-    )
+pub insert_new-requires : goal.insert_new-requires
+insert_new-requires c =
+    let w = c.in_ok-room.ensures in
+    (insertable c.requires.0 w (omega (arith, c.if-room-eq0.false)), omega (arith, c.requires.1, w.most, w.lent.cells))
 
-pub returns-in_default-newly_ended : goal.returns-in_default-newly_ended
-returns-in_default-newly_ended c =
-    let some-missing : 0 < c.take_room-taken.result.room.missing = omega (arith, c.if-room-eq0.false) in
-    new-stopped c.requires.0 c.take_room-taken.ensures c.in-On.is some-missing c.insert_new-newly.result _
-    c.insert_new-newly.ensures.walked c.in_default-newly_ended.is
+pub returns-in_err-region : goal.returns-in_err-region
+returns-in_err-region c =
+    let p = err_from_is_err_and c.from_residual-in_err-region.result c.from_residual-in_err-region.ensures.1 in
+    rw (p.1, p.2) (new-stopped c.requires.0 c.in_ok-room.ensures (omega (arith, c.if-room-eq0.false)) c.in_err-region.ensures)
 
 pub returns-then-requested-region : goal.returns-then-requested-region
 returns-then-requested-region c =
-    let some-missing : 0 < c.take_room-taken.result.room.missing = omega (arith, c.if-room-eq0.false) in
-    new-enough c.requires.0 c.take_room-taken.ensures c.in-On.is some-missing c.insert_new-newly.result _
-    c.insert_new-newly.ensures.walked c.in-On-newly_ended.is c.if-requested-region.true
+    new-enough c.requires.0 c.in_ok-room.ensures (omega (arith, c.if-room-eq0.false)) c.in_ok-region.ensures c.if-requested-region.true
 
 pub pull_in-requires-2 : goal.pull_in-requires-2
 pull_in-requires-2 c =
-    let some-missing : 0 < c.take_room-taken.result.room.missing = omega (arith, c.if-room-eq0.false) in (
-      fillable-rest c.requires.0 c.take_room-taken.ensures c.in-On.is some-missing c.insert_new-newly.result _
-          c.insert_new-newly.ensures.walked c.in-On-newly_ended.is (omega (arith, c.if-requested-region.false)) c.insert_new-newly.ensures.spent,
-      omega (
-        arith,
-        c.requires.1,
-        c.take_room-taken.ensures.most,
-        c.insert_new-newly.ensures.walked.most,
-        c.take_room-taken.auto.log,
-        c.insert_new-newly.auto.log,
-      ),
-    )
+    let w = c.in_ok-room.ensures in
+    let i = c.in_ok-region.ensures in
+    let short : c.in_ok-region.region.size < c.args.requested = omega (arith, c.if-requested-region.false) in
+    (fillable-rest c.requires.0 w (omega (arith, c.if-room-eq0.false)) i short,
+      omega (arith, c.requires.1, w.most, w.lent.cells, i.walked.most, i.walked.lent.cells))
 
 pub returns : goal.returns
 returns c =
-    let some-missing : 0 < c.take_room-taken.result.room.missing = omega (arith, c.if-room-eq0.false) in
-    filled-rest c.requires.0 c.take_room-taken.ensures c.in-On.is some-missing c.insert_new-newly.result _
-    c.insert_new-newly.ensures.walked c.in-On-newly_ended.is (omega (arith, c.if-requested-region.false)) c.pull_in-2.result _
-    c.pull_in-2.ensures
+    let short : c.in_ok-region.region.size < c.args.requested = omega (arith, c.if-requested-region.false) in
+    filled-rest c.requires.0 c.in_ok-room.ensures (omega (arith, c.if-room-eq0.false)) c.in_ok-region.ensures short c.pull_in-2.ensures

@@ -6,7 +6,7 @@ use native.Mathlib.Omega.{arith}
 use lib.ListN.{length, get_or}
 use Rattle.tables.specs.Bounds.{HOLES, PAGES, ROOTS, SPANS}
 use Rattle.tables.specs.Values.{free_of, holes_of, zombies_of, pages_of, roots_of, tables_of, empty_hole}
-use Rattle.tables.specs.Choices.{chosen}
+use Rattle.cells.specs.Table.{chosen}
 use Rattle.tables.specs.InsertFree.{bytes}
 use Rattle.tables.specs.TakeRange.{smallest_hole}
 use Rattle.tables.specs.declared.Pool.{Pool}
@@ -46,14 +46,14 @@ pub returns-then-left-missing : goal.returns-then-left-missing
 unfolding tables_of
 returns-then-left-missing c =
     let a = c.args in
-    let full : PAGES < length (pages_of a.pool.pages) + (a.requested - bytes (free_of a.pool.free)) / a.pool.page =
-    omega (arith, c.if-left-missing.true, missing-is c.requires, pages-count a.pool.pages c.requires.tables.pages, c.requires.tables.pages.most) in
+    let full : PAGES < length (pages_of a.pool.now.pages) + (a.requested - bytes (free_of a.pool.now.free)) / a.pool.now.page =
+    omega (arith, c.if-left-missing.true, missing-is c.requires, pages-count a.pool.now.pages c.requires.tables.pages, c.requires.tables.pages.most) in
     record { ran = λ xs k l. pages-full _ c.if-pool-requested.false full }
 
 pub returns-then-pulled-gt-ZOMBIES : goal.returns-then-pulled-gt-ZOMBIES
 unfolding tables_of
 returns-then-pulled-gt-ZOMBIES c =
-    let p = c.args.pool in
+    let p = c.args.pool.now in
     let full : SPANS < length (zombies_of p.zombies) + length (free_of p.free) =
     omega (arith, c.if-pulled-gt-ZOMBIES.true, zombies-count p.zombies c.requires.tables.zombies, free-count p.free c.requires.tables.free) in
     record { ran = λ xs k l. zombies-full _ c.if-pool-requested.false (few c.requires c.if-left-missing.false) full }
@@ -62,32 +62,32 @@ pub returns-then-pool-lt-ROOTS : goal.returns-then-pool-lt-ROOTS
 unfolding tables_of
 returns-then-pool-lt-ROOTS c =
     let g = c.requires in
-    let left : length (roots_of c.args.pool.roots) < ROOTS = omega (arith, c.if-pool-lt-ROOTS.true, roots-count c.args.pool.roots g.tables.roots) in
+    let left : length (roots_of c.args.pool.now.roots) < ROOTS = omega (arith, c.if-pool-lt-ROOTS.true, roots-count c.args.pool.now.roots g.tables.roots) in
     record {
       ran = λ xs k l. root-left _ c.if-pool-requested.false (few g c.if-left-missing.false) (pullable g c.if-pulled-gt-ZOMBIES.false)
           (holes g (omega arith)) left;
     }
 
-pub returns-in_default : goal.returns-in_default
+pub returns-in-None : goal.returns-in-None
 unfolding tables_of chosen
-returns-in_default c =
+returns-in-None c =
     let g = c.requires in
-    let l = holes_of c.args.pool.holes in
-    let none_so : smallest_hole c.args.requested l ≡ none = sym c.smallest_hole-hole.ensures.is ∙ ap (chosen empty_hole l) c.in_default.is in
-    let spent : ROOTS ≤ length (roots_of c.args.pool.roots) =
-    omega (arith, c.if-pool-lt-ROOTS.false, roots-count c.args.pool.roots g.tables.roots) in
+    let l = holes_of c.args.pool.now.holes in
+    let none_so : smallest_hole c.args.requested l ≡ none = sym c.smallest_hole.ensures.is ∙ ap (chosen empty_hole l) c.in-None.is in
+    let spent : ROOTS ≤ length (roots_of c.args.pool.now.roots) =
+    omega (arith, c.if-pool-lt-ROOTS.false, roots-count c.args.pool.now.roots g.tables.roots) in
     record {
       ran = λ xs k l. roots-full _ c.if-pool-requested.false (few g c.if-left-missing.false) (pullable g c.if-pulled-gt-ZOMBIES.false)
           (holes g (omega arith)) none_so spent;
     }
 
-pub returns : goal.returns
+pub returns-in-Some : goal.returns-in-Some
 unfolding tables_of chosen
-returns c =
+returns-in-Some c =
     let g = c.requires in
-    let l = holes_of c.args.pool.holes in
-    let so : smallest_hole c.args.requested l ≡ some (get_or l c.in-At.field-0 empty_hole) =
-    sym c.smallest_hole-hole.ensures.is ∙ ap (chosen empty_hole l) c.in-At.is in
+    let l = holes_of c.args.pool.now.holes in
+    let so : smallest_hole c.args.requested l ≡ some (get_or l c.in-Some.field-0 empty_hole) =
+    sym c.smallest_hole.ensures.is ∙ ap (chosen empty_hole l) c.in-Some.is in
     record {
       ran = λ xs k l. hole-left _ c.if-pool-requested.false (few g c.if-left-missing.false) (pullable g c.if-pulled-gt-ZOMBIES.false)
           (holes g (omega arith)) _ so;

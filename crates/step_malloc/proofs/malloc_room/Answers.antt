@@ -2,47 +2,44 @@
 use mathlib.Core.Path.{◌≡◌, ap, ◌∙◌}
 use Prim.Native.Nat.{◌-◌}
 use native.Mathlib.Omega.{arith}
+use Rattle.std.proofs.lemmas.Result.{err_from_is_err_and}
 use Rattle.step_new_room.specs.Promises.{free_bytes}
 use Rattle.step_malloc.proofs.Rooms.{bytes_most, readable, refused-stops, roomable, room-stops, room-handable, room-handed}
 use Rattle.step_malloc.proofs.malloc_room.Goals as goal
+use Rattle.step_malloc.proofs.malloc_room.Goals.{After-missing_of-missing}
 
-pub free_bytes-free-requires : goal.free_bytes-free-requires
-free_bytes-free-requires c = let h = c.requires.0 in (h.tables.free, omega (arith, bytes_most h))
+lack : (c : After-missing_of-missing) → c.missing_of-missing.result ≡ c.args.bytes - free_bytes c.args.pool.now
+lack c = c.missing_of-missing.ensures ∙ ap (λ f. c.args.bytes - f) c.free_bytes.ensures
 
-pub room_refused-refused-requires : goal.room_refused-refused-requires
-room_refused-refused-requires c =
-    let lack : c.missing_of-missing.result ≡ c.args.bytes - free_bytes c.args.pool = c.missing_of-missing.ensures ∙ ap (λ f. c.args.bytes - f) c.free_bytes-free.ensures in readable c.requires.0 lack
+pub free_bytes-requires : goal.free_bytes-requires
+free_bytes-requires c = let h = c.requires.0 in (h.tables.free, omega (arith, bytes_most h))
 
-pub returns-in_default : goal.returns-in_default
-returns-in_default c =
-    let lack : c.missing_of-missing.result ≡ c.args.bytes - free_bytes c.args.pool = c.missing_of-missing.ensures ∙ ap (λ f. c.args.bytes - f) c.free_bytes-free.ensures in
-    rw c.stepped_at.ensures
-    (refused-stops c.requires.0 lack c.args.stream c.args.made c.args.answers.now c.args.log.now c.room_refused-refused.result
-    c.room_refused-refused.ensures c.in_default.is)
+pub room_refused-requires : goal.room_refused-requires
+room_refused-requires c = readable c.requires.0 (lack (goal.at.room_refused-requires c).After-missing_of-missing)
 
-pub make_room-roomed-requires : goal.make_room-roomed-requires
-make_room-roomed-requires c =
-    let lack : c.missing_of-missing.result ≡ c.args.bytes - free_bytes c.args.pool = c.missing_of-missing.ensures ∙ ap (λ f. c.args.bytes - f) c.free_bytes-free.ensures in (
-      roomable c.requires.0 lack c.args.stream c.args.made c.args.answers.now c.args.log.now c.room_refused-refused.result
-          c.room_refused-refused.ensures c.in-On.is,
-      c.requires.1,
-    )
+pub returns-in_err-room_refused : goal.returns-in_err-room_refused
+returns-in_err-room_refused c =
+    let p = err_from_is_err_and c.from_residual.result c.from_residual.ensures.1 in
+    let l = lack (goal.at.returns-in_err-room_refused c).After-missing_of-missing in
+    rw (p.1, p.2) (refused-stops c.requires.0 l c.args.stream c.in_err-room_refused.ensures)
 
-pub returns-in_default-ended : goal.returns-in_default-ended
-returns-in_default-ended c =
-    let lack : c.missing_of-missing.result ≡ c.args.bytes - free_bytes c.args.pool = c.missing_of-missing.ensures ∙ ap (λ f. c.args.bytes - f) c.free_bytes-free.ensures in
-    rw c.stepped_at-in_default-ended.ensures
-    (room-stops c.requires.0 lack _ _ _ _ c.room_refused-refused.result c.room_refused-refused.ensures c.in-On.is
-    c.make_room-roomed.result _ c.make_room-roomed.ensures c.in_default-ended.is)
+pub make_room-requires : goal.make_room-requires
+make_room-requires c =
+    let l = lack (goal.at.make_room-requires c).After-missing_of-missing in
+    (roomable c.requires.0 l c.args.stream {d = c.args.driver.now} c.in_ok-room_refused.ensures, c.requires.1)
+
+pub returns-in_err-region : goal.returns-in_err-region
+returns-in_err-region c =
+    let p = err_from_is_err_and c.from_residual-in_err-region.result c.from_residual-in_err-region.ensures.1 in
+    let l = lack (goal.at.returns-in_err-region c).After-missing_of-missing in
+    rw (p.1, p.2) (room-stops c.requires.0 l c.args.stream c.in_ok-room_refused.ensures c.in_err-region.ensures)
 
 pub hand_out-requires : goal.hand_out-requires
 hand_out-requires c =
-    let lack : c.missing_of-missing.result ≡ c.args.bytes - free_bytes c.args.pool = c.missing_of-missing.ensures ∙ ap (λ f. c.args.bytes - f) c.free_bytes-free.ensures in
-    room-handable c.requires.0 lack _ _ _ _ c.room_refused-refused.result c.room_refused-refused.ensures c.in-On.is
-    c.make_room-roomed.result _ c.make_room-roomed.ensures c.in-On-ended.is
+    let l = lack (goal.at.hand_out-requires c).After-missing_of-missing in
+    room-handable c.requires.0 l c.args.stream c.in_ok-room_refused.ensures c.in_ok-region.ensures
 
 pub returns : goal.returns
 returns c =
-    let lack : c.missing_of-missing.result ≡ c.args.bytes - free_bytes c.args.pool = c.missing_of-missing.ensures ∙ ap (λ f. c.args.bytes - f) c.free_bytes-free.ensures in
-    room-handed c.requires.0 lack _ _ _ _ c.room_refused-refused.result c.room_refused-refused.ensures c.in-On.is
-    c.make_room-roomed.result _ c.make_room-roomed.ensures c.in-On-ended.is c.hand_out.result c.hand_out.ensures
+    let l = lack (goal.at.returns c).After-missing_of-missing in
+    room-handed c.requires.0 l c.args.stream c.in_ok-room_refused.ensures c.in_ok-region.ensures c.hand_out.ensures

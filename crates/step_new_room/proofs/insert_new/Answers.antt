@@ -1,30 +1,20 @@
 -- `step_new_room::insert_new` meets its contract: its two calls are the steps of the rule in order.
-use Prim.Native.Nat.{◌+◌}
-use borrow.Author.Rules.{rules}
-use Rattle.tables.specs.Values.{tables_of}
-use Rattle.tables.specs.Driver.{must, access}
-use Rattle.driving.specs.Ran.{Ran, point}
-use Rattle.driving.specs.Endings.{ending}
+use native.Mathlib.Omega.{arith}
+use Rattle.std.proofs.lemmas.Result.{err_from_is_err_and}
+use Rattle.driving.proofs.Lent.{room-left}
 use Rattle.step_new_room.proofs.Inserting.{can_insert, access-stopped, new_inserted}
 use Rattle.step_new_room.proofs.insert_new.Goals as goal
 
-pub returns-in_default : goal.returns-in_default
-unfolding access
-returns-in_default c =
-    let accessed : let a = c.args in
-    Ran (must (access a.room.start.0 a.room.missing)) a.answers.now (point a.made (tables_of a.pool) a.log.now)
-    (ending c.must_tell-accessed.result) (point (a.made + 1) (tables_of a.pool) c.must_tell-accessed.new.log) = c.must_tell-accessed.ensures (tables_of c.args.pool) in
-    rw c.ended_at.ensures
-    (access-stopped c.args.room c.args.pool c.requires.0 _ _ _ _ _ accessed _ c.in_default.is)
+pub returns-in_err-must_tell : goal.returns-in_err-must_tell
+returns-in_err-must_tell c =
+    let p = err_from_is_err_and c.from_residual.result c.from_residual.ensures.1 in
+    rw (p.1, p.2) (access-stopped c.args.room c.args.pool.now c.requires.0 _ _ c.in_err-must_tell.ensures)
 
-pub insert_free-inserted-requires : goal.insert_free-inserted-requires
-insert_free-inserted-requires c =
-    (can_insert c.args.room c.args.pool c.requires.0, search rules)
+pub insert_free-requires : goal.insert_free-requires
+insert_free-requires c =
+    let d = c.must_tell.ensures in
+    (can_insert c.args.room c.args.pool.now c.requires.0, room-left 1 1 c.requires.1 d.lent (omega (arith, d.made)) (omega arith))
 
 pub returns : goal.returns
-unfolding access
 returns c =
-    let accessed : let a = c.args in
-    Ran (must (access a.room.start.0 a.room.missing)) a.answers.now (point a.made (tables_of a.pool) a.log.now)
-    (ending c.must_tell-accessed.result) (point (a.made + 1) (tables_of a.pool) c.must_tell-accessed.new.log) = c.must_tell-accessed.ensures (tables_of c.args.pool) in
-    new_inserted c.args.room c.args.pool c.requires.0 _ _ _ _ _ accessed c.in-On.is _ _ c.insert_free-inserted.ensures
+    new_inserted c.args.room c.args.pool.now c.requires.0 _ _ c.in_ok-must_tell.ensures _ _ _ _ c.insert_free.ensures

@@ -5,4 +5,4 @@ use Rattle.step_open.proofs.no_tables.Goals as goal
 
 pub returns : goal.returns
 unfolding pool_of
-returns c = rw c.closed-p.ensures refl
+returns c = rw c.closed.ensures refl

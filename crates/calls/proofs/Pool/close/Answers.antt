@@ -1,35 +1,34 @@
--- `calls::Pool::close` meets its contract: what its steps leave of the pool as it stands, or what is said of any other pool.
-use mathlib.Core.Path.{sym, ◌∙◌}
-use Prim.Native.Nat.{◌/◌}
-use lib.ListN.{length}
-use Rattle.pool_entry.specs.Promises.{Admitted, Stands}
-use Rattle.pool_entry.proofs.Reading.{read_same}
-use Rattle.pool_entry.proofs.Entering.{is-ready, ready-tells}
-use Rattle.calls.proofs.Closing.{close-goes, closes-short, closes_done}
+-- `calls::Pool::close` meets its contract: refused at entry, or what its steps leave.
+use mathlib.Core.Path.{refl, ap}
+use native.Mathlib.Omega.{arith}
+use Rattle.calls.proofs.Reading.{read_kept, read-tables}
+use Rattle.calls.proofs.Left.{Begins, replies-none, long}
+use Rattle.calls.proofs.Closing.{closes-short, closes_done}
 use Rattle.calls.proofs.Pool.close.Goals as goal
-use Rattle.calls.proofs.Pool.close.Goals.{Then-is_sound}
+use Rattle.calls.proofs.Pool.close.Goals.{After-new-driver}
 
--- the last test passes
-module _ (c : Then-is_sound) where
-  standing : Stands c.args.self.value
-  standing = c.stands.ensures.yes c.if-stands.true
+begins : (c : After-new-driver) → Begins c.new-driver.result c.args.answers.now c.args.log.now
+begins c = record { answers = ap (λ a. a.now) c.new-driver.ensures.lent.0; log = c.new-driver.ensures.start.0; made = c.new-driver.ensures.start.1 }
 
-  admitted : Admitted c.args.self.value (length c.args.log.now / 4)
-  admitted =
-      let k = ready-tells _ _ _ (sym c.is_open.ensures ∙ c.if-is_open.true) in
-      is-ready _ _ k.0 k.1.0 k.1.1 standing (sym c.is_sound.ensures ∙ c.if-is_sound.true)
+pub returns-in-Err : goal.returns-in-Err
+returns-in-Err c = replies-none _ c.args.self _ (c.in-Err.ensures.stops _ refl _) c.refuse.ensures
 
-pub is_sound-requires : goal.is_sound-requires
-is_sound-requires c =
-    let s = c.stands.ensures.yes c.if-stands.true in
-    record { p_value = s.ceilings; in_order = read_same _ s.same }
+pub close_steps-requires : goal.close_steps-requires
+close_steps-requires c =
+    let m = c.in_default-enter_close.ensures in
+    let g = m.goes refl in
+    let k = read_kept _ _ _ (m.read refl) g.0 in
+    let b = begins (goal.at.close_steps-requires c).After-new-driver in
+    ((record { zombies = k.zombies; pages = k.pages; roots = k.roots }, omega arith), omega (arith, long _ b g.1))
 
-pub returns-in_default : goal.returns-in_default
-returns-in_default c =
-    let s = (goal.at.returns-in_default c).Then-is_sound in
-    closes-short _ _ (sym (standing s).same) c.close_steps-closing.ensures (close-goes _ _ (admitted s) _) c.in_default.is c.leave_short.ensures
+pub returns-in-Ok : goal.returns-in-Ok
+returns-in-Ok c =
+    let m = c.in_default-enter_close.ensures in
+    closes_done c.args.self _ (read-tables _ _ _ (m.read refl)) (begins (goal.at.returns-in-Ok c).After-new-driver) (m.passes refl _)
+    c.in-Ok.ensures c.leave_closed.ensures
 
-pub returns-then-is_sound : goal.returns-then-is_sound
-returns-then-is_sound c =
-    let s = (goal.at.returns-then-is_sound c).Then-is_sound in
-    closes_done _ _ (sym (standing s).same) c.close_steps-closing.ensures (close-goes _ _ (admitted s) _) c.in-On.is c.leave_closed.ensures
+pub returns-in-Err-close_steps : goal.returns-in-Err-close_steps
+returns-in-Err-close_steps c =
+    let m = c.in_default-enter_close.ensures in
+    closes-short c.args.self _ (read-tables _ _ _ (m.read refl)) (begins (goal.at.returns-in-Err-close_steps c).After-new-driver) (m.passes refl _)
+    c.in-Err-close_steps.ensures c.leave_short.ensures

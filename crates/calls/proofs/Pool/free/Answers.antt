@@ -1,55 +1,51 @@
--- `calls::Pool::free` meets its contract: refused by the search, what its steps leave of the pool as it stands, or what is said of any other pool.
-use mathlib.Core.Path.{◌≡◌, refl, sym, ◌∙◌}
+-- `calls::Pool::free` meets its contract: refused at entry or by the search, or what its steps leave.
+use mathlib.Core.Path.{◌≡◌, refl, ap, sym, ◌∙◌}
 use Prim.Native.Nat.{◌/◌}
 use native.Mathlib.Omega.{arith}
 use lib.ListN.{length}
+use Rattle.std.proofs.Common.{rules}
 use Rattle.tables.specs.Values.{opened, at_entry, pool_of}
-use Rattle.pool_entry.specs.Promises.{Admitted, Stands}
-use Rattle.pool_entry.proofs.Reading.{read_same}
-use Rattle.pool_entry.proofs.Entering.{is-ready, ready-tells}
-use Rattle.calls.proofs.Reading.{stands_read}
-use Rattle.calls.proofs.Left.{replies-none, left-ran_out, left_by_lem, long}
-use Rattle.calls.proofs.Freeing.{freeable, kept-left, free-none, free-left}
+use Rattle.tables.specs.Free.{free}
+use Rattle.pool_entry.specs.Promises.{Admitted}
+use Rattle.calls.proofs.Reading.{read_opened, read_kept, read-tables}
+use Rattle.calls.proofs.Left.{Begins, replies-none, replies-left, long}
+use Rattle.calls.proofs.Freeing.{freeable, free-none, free-some}
 use Rattle.calls.proofs.Pool.free.Goals as goal
-use Rattle.calls.proofs.Pool.free.Goals.{Then-is_sound}
+use Rattle.calls.proofs.Pool.free.Goals.{In_default-enter, After-new-driver}
 
--- the last test passes
-module _ (c : Then-is_sound) where
-  standing : Stands c.args.self.value
-  standing = c.stands.ensures.yes c.if-stands.true
-
+module _ (c : In_default-enter) where
   admitted : Admitted c.args.self.value (length c.args.log.now / 4)
-  admitted =
-      let k = ready-tells _ _ _ (sym c.is_open.ensures ∙ c.if-is_open.true) in
-      is-ready _ _ k.0 k.1.0 k.1.1 standing (sym c.is_sound.ensures ∙ c.if-is_sound.true)
+  admitted = c.in_default-enter.ensures.goes refl
 
-  read : let p = c.args.self.value in p ≡ pool_of opened (at_entry p)
-  read = stands_read _ admitted.state standing
+  read : c.enter.new.pool ≡ pool_of opened (at_entry c.args.self.value)
+  read = read_opened _ _ admitted.state (c.in_default-enter.ensures.read refl)
 
-pub is_sound-requires : goal.is_sound-requires
-is_sound-requires c =
-    let s = c.stands.ensures.yes c.if-stands.true in
-    record { p_value = s.ceilings; in_order = read_same _ s.same }
+begins : (c : After-new-driver) → Begins c.new-driver.result c.args.answers.now c.args.log.now
+begins c = record { answers = ap (λ a. a.now) c.new-driver.ensures.lent.0; log = c.new-driver.ensures.start.0; made = c.new-driver.ensures.start.1 }
 
-pub returns-in_default : goal.returns-in_default
-returns-in_default c =
-    let s = (goal.at.returns-in_default c).Then-is_sound in
-    replies-none _ _ _ (free-none _ _ (admitted s) _ (read s) _ _ _ c.find_buffer-choice.ensures.is c.in_default.is) (c.refuse.ensures.stops _ refl)
+pub returns-in-Err : goal.returns-in-Err
+unfolding free
+returns-in-Err c = replies-none _ c.args.self _ (c.in-Err.ensures.stops _ refl _) c.refuse.ensures
 
-pub free_steps-freed-requires : goal.free_steps-freed-requires
-free_steps-freed-requires c =
-    let s = (goal.at.free_steps-freed-requires c).Then-is_sound in
-    let a = admitted s in
-    (freeable _ _ a _ (read s) _ _ c.in-At.is c.find_buffer-choice.ensures.placed, omega (arith, long _ a.log))
+pub find-requires : goal.find-requires
+find-requires c =
+    let e = (goal.at.find-requires c).In_default-enter in
+    (search rules, (read_kept _ _ _ (read e) (admitted e).form).live.most)
 
-pub returns-then-state-eq0 : goal.returns-then-state-eq0
-returns-then-state-eq0 c =
-    let s = (goal.at.returns-then-state-eq0 c).Then-is_sound in
-    free-left _ _ (admitted s) _ (read s) _ _ _ c.find_buffer-choice.ensures.is _ c.in-At.is c.free_steps-freed.ensures
-    (c.leave_short.ensures ∙ sym (left-ran_out _ _ (sym c.state_after-state.ensures ∙ c.if-state-eq0.true)))
+pub returns-in_default-find : goal.returns-in_default-find
+returns-in_default-find c =
+    let e = (goal.at.returns-in_default-find c).In_default-enter in
+    replies-none _ c.args.self _ (free-none _ _ (admitted e) _ (read e) _ _ _ c.find.ensures.is c.in_default-find.is) c.refuse-in_default-find.ensures
 
-pub returns-then-is_sound : goal.returns-then-is_sound
-returns-then-is_sound c =
-    let s = (goal.at.returns-then-is_sound c).Then-is_sound in
-    free-left _ _ (admitted s) _ (read s) _ _ _ c.find_buffer-choice.ensures.is _ c.in-At.is c.free_steps-freed.ensures
-    (sym (left_by_lem _ _ _ (kept-left _ _ (admitted s) _ (read s) c.free_steps-freed.ensures) c.state_after-state.ensures c.if-state-eq0.false))
+pub free_steps-ended-requires : goal.free_steps-ended-requires
+free_steps-ended-requires c =
+    let g = goal.at.free_steps-ended-requires c in
+    let e = g.In_default-enter in
+    (freeable _ _ (admitted e) _ (read e) _ _ c.in-Some.is c.find.ensures.placed, omega (arith, long _ (begins g.After-new-driver) (admitted e).log))
+
+pub returns : goal.returns
+returns c =
+    let g = goal.at.returns c in
+    let e = g.In_default-enter in
+    replies-left c.args.self _ (read-tables _ _ _ (read e)) (begins g.After-new-driver) c.free_steps-ended.ensures
+    (free-some _ _ (admitted e) _ (read e) _ _ _ c.find.ensures.is _ c.in-Some.is) c.leave.ensures

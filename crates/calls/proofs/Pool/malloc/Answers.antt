@@ -1,49 +1,47 @@
--- `calls::Pool::malloc` meets its contract: refused for its size, what its steps leave of the pool as it stands, or what is said of any other pool.
-use mathlib.Core.Path.{sym, ◌∙◌}
+-- `calls::Pool::malloc` meets its contract: refused at entry or for its size, or what its steps leave.
+use mathlib.Core.Path.{◌≡◌, refl, ap, sym, ◌∙◌}
 use Prim.Native.Nat.{◌/◌}
 use native.Mathlib.Omega.{arith}
 use lib.ListN.{length}
-use Rattle.pool_entry.specs.Promises.{Admitted, Stands}
-use Rattle.pool_entry.proofs.Reading.{read_same}
-use Rattle.pool_entry.proofs.Entering.{is-ready, ready-tells}
-use Rattle.calls.proofs.Reading.{stands_read}
-use Rattle.calls.proofs.Left.{replies-none, replies-left, long}
-use Rattle.calls.proofs.Mallocking.{page-some, mallocable, malloc-refused, malloc-goes}
+use Rattle.tables.specs.Malloc.{malloc_by}
+use Rattle.pool_entry.specs.Promises.{Admitted}
+use Rattle.calls.proofs.Reading.{read_opened, read-tables}
+use Rattle.calls.proofs.Left.{Begins, replies-none, replies-left, long}
+use Rattle.calls.proofs.Mallocking.{page-some, spans-few, mallocable, malloc-refused, malloc-goes}
 use Rattle.calls.proofs.Pool.malloc.Goals as goal
-use Rattle.calls.proofs.Pool.malloc.Goals.{Then-is_sound}
+use Rattle.calls.proofs.Pool.malloc.Goals.{In_default-enter, After-new-driver}
 
--- the last test passes
-module _ (c : Then-is_sound) where
-  standing : Stands c.args.self.value
-  standing = c.stands.ensures.yes c.if-stands.true
+admitted : (c : In_default-enter) → Admitted c.args.self.value (length c.args.log.now / 4)
+admitted c = c.in_default-enter.ensures.goes refl
 
-  admitted : Admitted c.args.self.value (length c.args.log.now / 4)
-  admitted =
-      let k = ready-tells _ _ _ (sym c.is_open.ensures ∙ c.if-is_open.true) in
-      is-ready _ _ k.0 k.1.0 k.1.1 standing (sym c.is_sound.ensures ∙ c.if-is_sound.true)
+begins : (c : After-new-driver) → Begins c.new-driver.result c.args.answers.now c.args.log.now
+begins c = record { answers = ap (λ a. a.now) c.new-driver.ensures.lent.0; log = c.new-driver.ensures.start.0; made = c.new-driver.ensures.start.1 }
 
-pub is_sound-requires : goal.is_sound-requires
-is_sound-requires c =
-    let s = c.stands.ensures.yes c.if-stands.true in
-    record { p_value = s.ceilings; in_order = read_same _ s.same }
+pub returns-in-Err : goal.returns-in-Err
+unfolding malloc_by
+returns-in-Err c = replies-none _ c.args.self _ (c.in-Err.ensures.stops _ refl _) c.refuse.ensures
 
-pub size_refused-sized-requires : goal.size_refused-sized-requires
-size_refused-sized-requires c = page-some _ _ (admitted (goal.at.size_refused-sized-requires c).Then-is_sound)
+pub overflow_add-self : goal.overflow_add-self
+overflow_add-self c = omega (arith, spans-few _ _ (admitted (goal.at.overflow_add-self c).In_default-enter))
 
-pub returns-in_default : goal.returns-in_default
-returns-in_default c =
-    let a = admitted (goal.at.returns-in_default c).Then-is_sound in
-    let e = c.in_default.is in
-    replies-none _ _ _ (malloc-refused _ _ a _ _ _ _ (sym c.size_refused-sized.ensures ∙ e)) (c.refuse.ensures.stops _ e)
+pub size_refused-requires : goal.size_refused-requires
+size_refused-requires c = page-some _ _ (admitted (goal.at.size_refused-requires c).In_default-enter)
 
-pub malloc_steps-stepped-requires : goal.malloc_steps-stepped-requires
-malloc_steps-stepped-requires c =
-    let s = (goal.at.malloc_steps-stepped-requires c).Then-is_sound in
-    let a = admitted s in
-    (mallocable _ _ a _ (sym c.size_refused-sized.ensures ∙ c.in-On.is) _ (stands_read _ a.state (standing s)), omega (arith, long _ a.log))
+pub returns-in-Err-size_refused : goal.returns-in-Err-size_refused
+returns-in-Err-size_refused c =
+    let a = admitted (goal.at.returns-in-Err-size_refused c).In_default-enter in
+    replies-none _ c.args.self _ (malloc-refused _ _ a _ _ _ _ (sym c.size_refused.ensures ∙ c.in-Err-size_refused.is)) c.refuse-in-Err-size_refused.ensures
 
-pub returns-then-is_sound : goal.returns-then-is_sound
-returns-then-is_sound c =
-    let s = (goal.at.returns-then-is_sound c).Then-is_sound in
-    replies-left _ _ (sym (standing s).same) c.malloc_steps-stepped.ensures
-    (malloc-goes _ _ (admitted s) _ _ _ (sym c.size_refused-sized.ensures ∙ c.in-On.is)) c.leave.ensures
+pub malloc_steps-ended-requires : goal.malloc_steps-ended-requires
+malloc_steps-ended-requires c =
+    let g = goal.at.malloc_steps-ended-requires c in
+    let a = admitted g.In_default-enter in
+    (mallocable _ _ a _ (sym c.size_refused.ensures ∙ c.in_default-size_refused.is) _ (read_opened _ _ a.state (c.in_default-enter.ensures.read refl)),
+      omega (arith, long _ (begins g.After-new-driver) a.log))
+
+pub returns : goal.returns
+returns c =
+    let g = goal.at.returns c in
+    let a = admitted g.In_default-enter in
+    replies-left c.args.self _ (read-tables _ _ _ (c.in_default-enter.ensures.read refl)) (begins g.After-new-driver) c.malloc_steps-ended.ensures
+    (malloc-goes _ _ a _ _ _ (sym c.size_refused.ensures ∙ c.in_default-size_refused.is)) c.leave.ensures

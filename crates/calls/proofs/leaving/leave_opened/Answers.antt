@@ -1,28 +1,33 @@
 -- `calls::leaving::leave_opened` meets its contract: closed for 17 or no root, else by the state.
 use mathlib.Core.Path.{◌≡◌, ap, sym, ◌∙◌}
-use mathlib.Core.Bool.{false, cond}
-use Rattle.tables.specs.Values.{opened, stopped, tables_of, pool_of}
-use Rattle.tables.specs.Outcomes.{is}
-use Rattle.calls.specs.Leaving.{opened_after}
-use Rattle.calls.proofs.States.{is-left-open}
+use native.Mathlib.Omega.{arith}
+use Rattle.tables.specs.Values.{tables_of, pool_of}
+use Rattle.calls.proofs.States.{is-short-open, is-left-open}
 use Rattle.calls.proofs.Left.{with-state}
-use Rattle.calls.proofs.Opening.{opened-none, opened_by}
+use Rattle.calls.proofs.Opening.{opened-short, opened-none, opened_by}
 use Rattle.calls.proofs.leaving.leave_opened.Goals as goal
 
-pub returns-then-value-eq0 : goal.returns-then-value-eq0
-returns-then-value-eq0 c =
-    let left_open : let o = c.args.stepped.outcome in
-    (is 17 o ≡ false) × (opened_after o ≡ cond (is 0 o) opened stopped) = is-left-open c.args.stepped.outcome (λ h. c.if-state-eq0.false (c.opened_after-state.ensures ∙ h)) in
-    let s = c.args.stepped in
-    ap (λ q. record { pool = record { value = q }; outcome = s.outcome; records = s.made; taken = s.made }) c.closed-empty.ensures
-    ∙ sym (opened-none s left_open.0 c.requires c.if-value-eq0.true)
+pub returns-in_default : goal.returns-in_default
+returns-in_default c =
+    let a = c.args in
+    rw (← c.outcome_of-outcome.ensures)
+    (rw c.closed-value.ensures at c.leave_short.ensures ∙ sym (opened-short a.left _ a.made (is-short-open _ (sym c.opened_after.ensures ∙ c.in_default.is))))
 
-pub returns : goal.returns
-returns c =
-    let left_open : let o = c.args.stepped.outcome in
-    (is 17 o ≡ false) × (opened_after o ≡ cond (is 0 o) opened stopped) = is-left-open c.args.stepped.outcome (λ h. c.if-state-eq0.false (c.opened_after-state.ensures ∙ h)) in
-    let s = c.args.stepped in
-    let w = left_open in
-    ap (λ q. record { pool = record { value = q }; outcome = s.outcome; records = s.made; taken = s.made })
-    (with-state _ s.pool c.requires ∙ ap (λ n. pool_of n (tables_of s.pool)) (c.opened_after-state.ensures ∙ w.1))
-    ∙ sym (opened_by s w.0 c.requires c.if-value-eq0.false)
+pub returns-then-left-gt0 : goal.returns-then-left-gt0
+returns-then-left-gt0 c =
+    let a = c.args in
+    let o = c.outcome_of-outcome.result in
+    let w = is-left-open o (sym c.opened_after.ensures ∙ c.in-Some.is) in
+    rw (← c.outcome_of-outcome.ensures)
+    (ap (λ q. record { pool = record { value = q }; outcome = o; records = a.made; taken = a.made })
+    (with-state _ a.left c.requires ∙ ap (λ n. pool_of n (tables_of a.left)) w.1)
+    ∙ sym (opened_by a.left o a.made w.0 c.requires (λ z. omega (arith, z, c.if-left-gt0.true))))
+
+pub returns-else-left-gt0 : goal.returns-else-left-gt0
+returns-else-left-gt0 c =
+    let a = c.args in
+    let o = c.outcome_of-outcome.result in
+    let w = is-left-open o (sym c.opened_after.ensures ∙ c.in-Some.is) in
+    rw (← c.outcome_of-outcome.ensures)
+    (ap (λ q. record { pool = record { value = q }; outcome = o; records = a.made; taken = a.made }) c.closed-value.ensures
+    ∙ sym (opened-none a.left o a.made w.0 c.requires (omega (arith, c.if-left-gt0.false))))

@@ -5,6 +5,7 @@ use mathlib.Core.List.{[], ◌∷◌}
 use native.Mathlib.Omega.{arith}
 use borrow.Author.Rules.{rules}
 use Rattle.lists.proofs.InOrder.{ascends-sorted, ascends-end}
+use Rattle.cells.specs.Table.{entries}
 use Rattle.tables.specs.Values.{live_of, empty_buffer}
 use Rattle.pool_entry.proofs.ZeroCells.{buffer_numbers, buffer-none}
 use Rattle.pool_entry.proofs.Exact.{joined-turn, joined_end, ascends-on, ascends-not, unsorted, refuses, beside}
@@ -12,7 +13,7 @@ use Rattle.pool_entry.proofs.standing.buffers_stand.Goals as goal
 
 -- a cell below the one before it
 pub returns-then-b-least : goal.returns-then-b-least
-unfolding live_of
+unfolding entries
 returns-then-b-least c =
     let t = c.args.t in
     let l = c.loop-i in
@@ -20,7 +21,7 @@ returns-then-b-least c =
     refuses (λ k. unsorted (λ b. b.start.0) (live_of t) (l.invariant.1.1 ∙ n) k.1)
 
 pub loop-i-preserved : goal.loop-i-preserved
-unfolding live_of
+unfolding entries
 loop-i-preserved c =
     let t = c.args.t in
     let l = c.loop-i in
@@ -28,7 +29,7 @@ loop-i-preserved c =
     ((search rules, search rules), (search rules, l.invariant.1.1 ∙ n))
 
 pub loop-i-2-init : goal.loop-i-2-init
-unfolding live_of
+unfolding entries
 loop-i-2-init c =
     let t = c.args.t in
     let l = c.loop-i in

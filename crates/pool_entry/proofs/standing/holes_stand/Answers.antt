@@ -5,6 +5,7 @@ use mathlib.Core.List.{[], ◌∷◌}
 use native.Mathlib.Omega.{arith}
 use borrow.Author.Rules.{rules}
 use Rattle.lists.proofs.InOrder.{ascends-sorted, ascends-end}
+use Rattle.cells.specs.Table.{entries}
 use Rattle.tables.specs.Values.{holes_of, empty_hole}
 use Rattle.pool_entry.proofs.ZeroCells.{hole_numbers, hole-none}
 use Rattle.pool_entry.proofs.Exact.{joined-turn, joined_end, ascends-on, ascends-not, unsorted, refuses, beside}
@@ -12,7 +13,7 @@ use Rattle.pool_entry.proofs.standing.holes_stand.Goals as goal
 
 -- a cell below the one before it
 pub returns-then-h-least : goal.returns-then-h-least
-unfolding holes_of
+unfolding entries
 returns-then-h-least c =
     let t = c.args.t in
     let l = c.loop-i in
@@ -20,7 +21,7 @@ returns-then-h-least c =
     refuses (λ k. unsorted (λ h. h.start.0) (holes_of t) (l.invariant.1.1 ∙ n) k.1)
 
 pub loop-i-preserved : goal.loop-i-preserved
-unfolding holes_of
+unfolding entries
 loop-i-preserved c =
     let t = c.args.t in
     let l = c.loop-i in
@@ -28,7 +29,7 @@ loop-i-preserved c =
     ((search rules, search rules), (search rules, l.invariant.1.1 ∙ n))
 
 pub loop-i-2-init : goal.loop-i-2-init
-unfolding holes_of
+unfolding entries
 loop-i-2-init c =
     let t = c.args.t in
     let l = c.loop-i in

@@ -5,6 +5,7 @@ use mathlib.Core.List.{[], ◌∷◌}
 use native.Mathlib.Omega.{arith}
 use borrow.Author.Rules.{rules}
 use Rattle.lists.proofs.InOrder.{ascends-sorted, ascends-end}
+use Rattle.cells.specs.Table.{entries}
 use Rattle.tables.specs.Values.{pages_of, empty_page}
 use Rattle.pool_entry.proofs.ZeroCells.{page_numbers, page-none}
 use Rattle.pool_entry.proofs.Exact.{joined-turn, joined_end, ascends-on, ascends-not, unsorted, refuses, beside}
@@ -12,7 +13,7 @@ use Rattle.pool_entry.proofs.standing.pages_stand.Goals as goal
 
 -- a cell below the one before it
 pub returns-then-g-least : goal.returns-then-g-least
-unfolding pages_of
+unfolding entries
 returns-then-g-least c =
     let t = c.args.t in
     let l = c.loop-i in
@@ -20,7 +21,7 @@ returns-then-g-least c =
     refuses (λ k. unsorted (λ g. g.start.0) (pages_of t) (l.invariant.1.1 ∙ n) k.1)
 
 pub loop-i-preserved : goal.loop-i-preserved
-unfolding pages_of
+unfolding entries
 loop-i-preserved c =
     let t = c.args.t in
     let l = c.loop-i in
@@ -28,7 +29,7 @@ loop-i-preserved c =
     ((search rules, search rules), (search rules, l.invariant.1.1 ∙ n))
 
 pub loop-i-2-init : goal.loop-i-2-init
-unfolding pages_of
+unfolding entries
 loop-i-2-init c =
     let t = c.args.t in
     let l = c.loop-i in

@@ -1,37 +1,18 @@
--- `pool_soundness::names::free_ids_below` meets its contract. The invariant: the test of all is the test of those left.
-use mathlib.Core.Path.{◌≡◌, ◌∙◌, sym}
-use mathlib.Core.Bool.{◌&&◌}
-use Prim.Native.Nat.{◌+◌}
-use native.Mathlib.Omega.{arith}
-use borrow.Author.Rules.{rules}
-use borrow.Author.Tests.{lt-ltb, le-ltb}
+-- `pool_soundness::names::free_ids_below` meets its contract.
+use mathlib.Core.Path.{◌∙◌}
+use mathlib.Core.Bool.{Bool}
 use lib.Dec.{ltb}
-use lib.ListN.{drop, get_or}
-use Rattle.lists.specs.Tests.{every}
-use Rattle.lists.proofs.Cells.{turn, ends}
-use Rattle.tables.specs.Values.{free_of, empty_region}
+use Rattle.std.proofs.Common.{rules, tests}
+use Rattle.std.proofs.lemmas.Iterator.{YieldsList-from_slice}
+use Rattle.std.proofs.lemmas.Iterator.Search.{all_from_yields_List}
+use Rattle.tables.specs.Values.{free_of}
+use Rattle.tables.specs.declared.FreeRegion.{FreeRegion}
+use Rattle.plain_tables.proofs.Chosen.{every_is}
 use Rattle.pool_soundness.proofs.names.free_ids_below.Goals as goal
 
-pub returns-then-counter-f : goal.returns-then-counter-f
-unfolding free_of
-returns-then-counter-f c =
-    let here : let a = c.args in
-    let i = c.loop-i.i in
-    every (λ f. ltb f.id.0 a.counter) (free_of a.t)
-    ≡ (ltb (get_or a.t.cells i empty_region).id.0 a.counter && every (λ f. ltb f.id.0 a.counter) (drop (i + 1) (free_of a.t))) = let t = c.args.t in
-    c.loop-i.invariant.1 ∙ rw (turn t.count t.cells c.loop-i.i empty_region (omega arith) (omega arith)) in sym (here ∙ simp (le-ltb _ _ c.if-counter-f.true))
-
-pub loop-i-preserved : goal.loop-i-preserved
-unfolding free_of
-loop-i-preserved c =
-    let here : let a = c.args in
-    let i = c.loop-i.i in
-    every (λ f. ltb f.id.0 a.counter) (free_of a.t)
-    ≡ (ltb (get_or a.t.cells i empty_region).id.0 a.counter && every (λ f. ltb f.id.0 a.counter) (drop (i + 1) (free_of a.t))) = let t = c.args.t in
-    c.loop-i.invariant.1 ∙ rw (turn t.count t.cells c.loop-i.i empty_region (omega arith) (omega arith)) in ((search rules, search rules), here ∙ simp (lt-ltb _ _ c.if-counter-f.false))
-
 pub returns : goal.returns
-unfolding free_of
 returns c =
-    let t = c.args.t in
-    sym (c.loop-i.invariant.1 ∙ rw (ends t.count t.cells c.loop-i.i (omega arith)))
+    let l = free_of c.args.free.now in
+    let test : FreeRegion → Bool = λ f. ltb f.id.0 c.args.counter in
+    all_from_yields_List test _ _ c.all.result c.all.ensures.ran (YieldsList-from_slice l (c.iter.ensures.rest ∙ c.entries.ensures)) (λ x b q k. search (rules, tests))
+    ∙ every_is test l

@@ -1,178 +1,158 @@
--- `pool_soundness::pages::pages_match` meets its contract. The invariant: the pages left match the starts left, those of the span that the walk stands in first,
--- then those of what is left of free and live.
-use mathlib.Core.Path.{◌≡◌, ap, ◌∙◌, sym}
-use mathlib.Core.Logic.{⊎_elim}
-use mathlib.Core.Bool.{false}
+-- `pool_soundness::pages::pages_match` meets its contract.
+use mathlib.Core.Path.{◌≡◌, refl, ap, sym, ◌∙◌}
+use mathlib.Core.Bool.{Bool, true, false, not, false≢true}
 use mathlib.Core.List.{List, [], ◌∷◌, ◌++◌, map}
-use Prim.Native.Nat.{ℕ, ◌+◌, ◌-◌, ◌/◌, ◌≤◌, ◌<◌}
+use Prim.Native.Nat.{ℕ, ◌+◌, ◌*◌, ◌≤◌, ◌<◌}
 use native.Mathlib.Omega.{arith}
+use borrow.Author.Rules.{rules}
 use borrow.Author.Tests.{eq-eqb, ne_eqb}
-use lib.ListN.{length, drop, get_or, length-append}
+use lib.ListN.{drop, get_or, drop_of_length-le}
+use Rattle.std.specs.Prelude.{Option, Some, None}
+use Rattle.std.specs.Option.{is_some}
 use Rattle.lists.specs.Tests.{All, same}
-use Rattle.lists.specs.Order.{sorted}
-use Rattle.lists.proofs.Tests.{all_implies, cases_lt}
-use Rattle.lists.proofs.Order.{all-sorted, length-sorted}
-use Rattle.lists.proofs.Copies.{turn-map, ends-map}
-use Rattle.lists.proofs.Merges.{all_unsorted, ascends-map}
+use Rattle.lists.proofs.Order.{all-sorted}
+use Rattle.lists.proofs.Cells.{turn-all}
 use Rattle.tables.specs.Bounds.{END, SPANS}
-use Rattle.tables.specs.Values.{free_of, live_of, pages_of, empty_buffer, empty_page, empty_region}
+use Rattle.tables.specs.Values.{tables_of, empty_page}
 use Rattle.tables.specs.Pull.{starts}
-use Rattle.tables.specs.WellFormed.{Range, upto}
+use Rattle.tables.specs.WellFormed.{Range, pages_match, spans}
 use Rattle.tables.specs.declared.Page.{Page}
 use Rattle.keeping.proofs.PageStarts.{page_starts}
-use Rattle.keeping.proofs.Ranges.{of_free, of_live}
-use Rattle.pool_soundness.specs.Fronts.{lower_of}
-use Rattle.pool_soundness.proofs.PageWalk.{next_start, next_bound, span_bound, some-start}
-use Rattle.pool_soundness.proofs.SideBySide.{start, frees, lives, range_of, front_of, front-is, ascends-drop, left, past-within, length-left, Taken2, next-of_2, lower-is, taken-of_2, lists-on_2}
+use Rattle.pool_soundness.specs.declared.walk.Front.{Front}
+use Rattle.pool_soundness.specs.declared.walk.Walk.{Walk}
+use Rattle.pool_soundness.specs.Walks.{of_free, of_live, range_of, start, left_of, Ordered, Next}
+use Rattle.pool_soundness.proofs.Ceilings.{counted}
+use Rattle.pool_soundness.proofs.PageWalk.{Spanned, next_start, next-span, next_bound, span_bound, some-page, some-start, none-high}
+use Rattle.pool_soundness.proofs.Walks.{spans_left, ordered_as}
 use Rattle.pool_soundness.proofs.pages.pages_match.Goals as goal
-
--- a span that holds a page, and ends at or below 2^63
-abbrev Spanned : ℕ → Range → Type 0
-Spanned page h = (page ≤ h.size) × (upto h ≤ END)
+use Rattle.pool_soundness.proofs.pages.pages_match.Goals.{Joined-left-eq0, then-left-eq0+in-Some, else-left-eq0}
 
 abbrev at-start : Page → ℕ
 at-start g = g.start.0
 
--- spans that are left have a start
-some-starts : (page : ℕ) (l : List Range) → 0 < page → 0 < length l → All (Spanned page) l → same [] (page_starts page l) ≡ false
-some-starts page [] p n a = absurd (omega arith)
-some-starts page (h ∷ l) p n a = some-start page h l p a.0.0
+-- whether no span is left once all pages are passed
+ends : (page : ℕ) → 0 < page → (l m : List Range) (r : Option Front) (b : Bool) → is_some r ≡ not b → Next l r m → All (Spanned page) l →
+    b ≡ same [] (page_starts page l)
+unfolding Next
+ends page p l m (Some x) true e n a = absurd (false≢true (sym e))
+ends page p l m (Some x) false e n a = sym (rw n (some-start page (range_of x) m p (rw n at a).0.0))
+ends page p l m None true e n a = rw (none-high page l a n)
+ends page p l m None false e n a = absurd (false≢true e)
 
-pub returns-then-total-j : goal.returns-then-total-j
-unfolding pages_of free_of live_of
-returns-then-total-j c =
-    let pages-left : let a = c.args in
-    let i = c.loop-i.i in
-    drop i (map at-start (pages_of a.t)) ≡ (get_or a.t.cells i empty_page).start.0 ∷ drop (i + 1) (map at-start (pages_of a.t)) = let t = c.args.t in
-    turn-map at-start t.count t.cells c.loop-i.i empty_page c.loop-i-test.true (omega (arith, c.requires.count_bound.0, c.loop-i.invariant.0.0.1)) in
-    let f-left : List Range = drop c.loop-i.j (frees c.args.free) in
-    let b-left : List Range = drop c.loop-i.k (lives c.args.live) in
-    let none_left : c.args.free.count + c.args.live.count ≤ c.loop-i.j + c.loop-i.k → f-left ++ b-left ≡ [] = λ h. let a = c.args in
-    rw (
-      ends-map of_free a.free.count a.free.cells c.loop-i.j (omega (arith, h, c.loop-i.invariant.0.1.0)),
-      ends-map of_live a.live.count a.live.cells c.loop-i.k (omega (arith, h, c.loop-i.invariant.0.1.0)),
-    ) in
-    sym (c.loop-i.invariant.1.1 ∙ rw (pages-left, c.if-left-eq0.true, none_left c.if-total-j.true))
+pub entries-requires : goal.entries-requires
+entries-requires c =
+    let few : c.args.pool.now.free.count ≤ SPANS = omega (arith, (counted c.args.pool.now c.requires.count_bound.0).spans) in (search rules, few)
 
-pub loop-i-preserved-then-left-eq0 : goal.loop-i-preserved-then-left-eq0
-unfolding free_of live_of
-loop-i-preserved-then-left-eq0 c =
-    let f-left : List Range = drop c.loop-i.j (frees c.args.free) in
-    let b-left : List Range = drop c.loop-i.k (lives c.args.live) in
-    let most_f : c.args.free.count ≤ SPANS = omega (arith, c.requires.count_bound.1.0) in
-    let room_f : c.args.free.count ≤ length c.args.free.cells = omega (arith, most_f, c.loop-i.invariant.0.1.1.0) in
-    let front_f : c.front_at-first.result ≡ front_of 0 f-left = let t = c.args.free in
-    c.front_at-first.ensures
-    ∙ front-is of_free t.count t.cells c.loop-i.j c.place_in-fj.result 0 empty_region room_f c.place_in-fj.ensures in
-    let most_b : c.args.live.count ≤ SPANS = omega (arith, c.requires.count_bound.1.0) in
-    let room_b : c.args.live.count ≤ length c.args.live.cells = omega (arith, most_b, c.loop-i.invariant.0.1.1.1) in
-    let front_b : c.front_at-second.result ≡ front_of 1 b-left = let t = c.args.live in
-    c.front_at-second.ensures
-    ∙ front-is of_live t.count t.cells c.loop-i.k c.place_in-bk.result 1 empty_buffer room_b c.place_in-bk.ensures in
-    let x-is : c.lower-x.result ≡ lower_of (front_of 0 f-left) (front_of 1 b-left) = lower-is _ _ _ _ _ c.lower-x.ensures front_f front_b in
-    let length-spans : length (f-left ++ b-left) ≡ (c.args.free.count - c.loop-i.j) + (c.args.live.count - c.loop-i.k) = let a = c.args in
-    rw (
-      length-append f-left b-left,
-      length-left of_free a.free.count a.free.cells c.loop-i.j room_f,
-      length-left of_live a.live.count a.live.cells c.loop-i.k room_b,
-    ) in
-    let some : 0 < length (f-left ++ b-left) = omega (arith, length-spans, c.loop-i.invariant.0.1.0, c.if-total-j.false) in
-    let taken : Taken2 f-left b-left c.lower-x.result = let a = c.args in
-    taken-of_2 f-left b-left c.lower-x.result
-    (next-of_2 f-left b-left c.lower-x.result x-is
-    (ascends-drop start c.loop-i.j 0 (frees a.free) (ascends-map of_free start 0 (free_of a.free) c.requires.ascends.0))
-    (ascends-drop start c.loop-i.k 0 (lives a.live) (ascends-map of_live start 0 (live_of a.live) c.requires.ascends.1)))
-    some (all_implies (Spanned a.page) (λ h. upto h ≤ END) (λ h q. q.1) (f-left ++ b-left) c.loop-i.invariant.1.0.0) in
-    let spanned : let x = c.lower-x.result in
-    All (Spanned c.args.page) (range_of x ∷ sorted start (left x.table 0 f-left ++ left x.table 1 b-left)) = let p = c.args.page in
-    rw taken.first at (all-sorted start (Spanned p) (f-left ++ b-left) c.loop-i.invariant.1.0.0) in
-    let table : ℕ = c.lower-x.result.table in
-    let lists_are : let a = c.args in
-    left table 0 f-left ++ left table 1 b-left ≡ drop c.past-j.result (frees a.free) ++ drop c.past-k.result (lives a.live) = let a = c.args in
-    lists-on_2 table c.loop-i.j c.loop-i.k _ _ c.past-j.ensures c.past-k.ensures (frees a.free) (lives a.live) in
-    let within_f : c.past-j.result ≤ c.args.free.count = let t = c.args.free in
-    past-within of_free t.count t.cells c.loop-i.j table 0 _ c.past-j.ensures taken.some0 c.loop-i.invariant.0.1.0.0 in
-    let within_b : c.past-k.result ≤ c.args.live.count = let t = c.args.live in
-    past-within of_live t.count t.cells c.loop-i.k table 1 _ c.past-k.ensures taken.some1 c.loop-i.invariant.0.1.0.1 in
-    let p = c.args.page in
-    let h = range_of c.lower-x.result in
-    let k = spanned in
-    let rest = left table 0 f-left ++ left table 1 b-left in (
-      (c.loop-i.invariant.0.0, ((within_f, within_b), c.loop-i.invariant.0.1.1)),
+pub entries-requires-2 : goal.entries-requires-2
+entries-requires-2 c =
+    let few : c.args.pool.now.live.count ≤ SPANS = omega (arith, (counted c.args.pool.now c.requires.count_bound.0).spans) in (search rules, few)
+
+pub entries-g-items-requires : goal.entries-g-items-requires
+entries-g-items-requires c = (search rules, (counted c.args.pool.now c.requires.count_bound.0).pages)
+
+pub loop-g-init : goal.loop-g-init
+unfolding tables_of
+loop-g-init c =
+    let p = c.args.pool.now in
+    let f = c.entries.result.now in
+    let b = c.entries-2.result.now in
+    let all = spans_left p f b c.entries.ensures c.entries-2.ensures in (
       (
-        (
-          rw lists_are at (all_unsorted start (Spanned p) rest k.1),
-          span_bound p END h k.0.1,
-        ),
-        c.loop-i.invariant.1.1
-            ∙ ap (λ n. same (drop c.loop-i.i (map at-start (pages_of c.args.t))) (starts n c.loop-i.at p ++ page_starts p (sorted start (f-left ++ b-left)))) c.if-left-eq0.true
-            ∙ ap (λ l. same (drop c.loop-i.i (map at-start (pages_of c.args.t))) (page_starts p l)) taken.first
-            ∙ ap (λ l. same (drop c.loop-i.i (map at-start (pages_of c.args.t))) (starts (h.size / p) h.from p ++ page_starts p (sorted start l))) lists_are,
+        record {
+          free = ordered_as of_free f _ c.entries.ensures c.requires.ascends.free;
+          live = ordered_as of_live b _ c.entries-2.ensures c.requires.ascends.live;
+          holes = tt;
+          zombies = tt;
+        },
+        (rw all (all-sorted start (Spanned p.page) (spans (tables_of p)) c.requires.all), search rules),
       ),
+      rw (all, c.entries-g-items.ensures) refl,
     )
+
+pub take_next-requires : goal.take_next-requires
+take_next-requires c = c.loop-g.invariant.0.0
+
+along : (P : Walk → ℕ → ℕ → Type 0) (w v : Walk) (a b l m : ℕ) → w ≡ v → a ≡ b → l ≡ m → P v b m → P w a l
+along P w v a b l m d e f h = rw (d, e, f) h
+
+-- where the walk stands once the next span is taken, if one had to be: in a span of which a page is left
+module _ (c : Joined-left-eq0) where
+  abbrev page : ℕ
+  page = c.args.pool.now.page
+
+  abbrev left-pages : ℕ → List ℕ
+  left-pages i = map at-start (drop i c.entries-g-items.result.now)
+
+  abbrev Stands : Walk → ℕ → ℕ → Type 0
+  Stands spans at left =
+      ((Ordered spans × (All (Spanned page) (left_of spans) × (at + left * page ≤ END))) × (0 < left))
+      × (pages_match (tables_of c.args.pool.now) ≡ same (left-pages c.loop-g.g-index) (starts left at page ++ page_starts page (left_of spans)))
+
+  stands : Stands c.if-left-eq0.spans c.if-left-eq0.at c.if-left-eq0.left
+  unfolding Next
+  stands =
+      let known = c.loop-g.invariant in
+      elim c.if-left-eq0.branch [
+        | then-left-eq0+in-Some w ↦
+            let h = range_of w.in-Some.span in
+            let next : left_of c.loop-g.spans ≡ h ∷ left_of w.take_next.new.self = w.in-Some.ensures.next in
+            let spanned : All (Spanned page) (h ∷ left_of w.take_next.new.self) = rw next at known.0.1.0 in
+            along Stands _ _ _ _ _ _ w.spans-is w.at-is w.left-is (
+              ((w.in-Some.ensures.ordered, (spanned.1, span_bound page END h spanned.0.1)), some-page page h.size c.requires.count_bound.1 spanned.0.0),
+              known.1 ∙ next-span page c.loop-g.at c.loop-g.left (left_of c.loop-g.spans) (left_of w.take_next.new.self) h (left-pages c.loop-g.g-index) w.if-left-eq0.true next,
+            )
+        | else-left-eq0 w ↦ along Stands _ _ _ _ _ _ w.spans-is w.at-is w.left-is ((known.0, omega (arith, w.if-left-eq0.false)), known.1)
+      ]
+
+  -- the next page, and the next start
+  next-page : left-pages c.loop-g.g-index ≡ (get_or c.entries-g-items.result.now c.loop-g.g-index empty_page).start.0 ∷ left-pages (c.loop-g.g-index + 1)
+  next-page = ap (map at-start) (turn-all c.entries-g-items.result.now c.loop-g.g-index empty_page c.loop-g-test.true)
+
+pub returns-in_default : goal.returns-in_default
+unfolding Next
+returns-in_default c =
+    let p = c.args.pool.now in
+    let known = c.loop-g.invariant in
+    let none : left_of c.loop-g.spans ≡ [] = none-high p.page (left_of c.loop-g.spans) known.0.1.0 c.in_default.ensures.next in
+    let item = turn-all c.entries-g-items.result.now c.loop-g.g-index empty_page c.loop-g-test.true in
+    sym (known.1 ∙ rw (c.if-left-eq0.true, none, item))
 
 pub returns-then-g-at : goal.returns-then-g-at
-unfolding pages_of
 returns-then-g-at c =
-    let pages-left : let a = c.args in
-    let i = c.loop-i.i in
-    drop i (map at-start (pages_of a.t)) ≡ (get_or a.t.cells i empty_page).start.0 ∷ drop (i + 1) (map at-start (pages_of a.t)) = let t = c.args.t in
-    turn-map at-start t.count t.cells c.loop-i.i empty_page c.loop-i-test.true (omega (arith, c.requires.count_bound.0, c.loop-i.invariant.0.0.1)) in
-    sym (c.loop-i.invariant.1.1 ∙ rw (pages-left, next_start c.args.page c.loop-i.left c.loop-i.at _ (omega arith), ne_eqb _ _ c.if-g-at.true))
+    let j = (goal.at.returns-then-g-at c).Joined-left-eq0 in
+    let s = c.if-left-eq0 in
+    sym ((stands j).1 ∙ rw (next-page j, next_start c.args.pool.now.page s.left s.at _ (stands j).0.1, ne_eqb _ _ c.if-g-at.true))
 
-pub loop-i-preserved : goal.loop-i-preserved
-unfolding pages_of
-loop-i-preserved c =
-    let pages-left : let a = c.args in
-    let i = c.loop-i.i in
-    drop i (map at-start (pages_of a.t)) ≡ (get_or a.t.cells i empty_page).start.0 ∷ drop (i + 1) (map at-start (pages_of a.t)) = let t = c.args.t in
-    turn-map at-start t.count t.cells c.loop-i.i empty_page c.loop-i-test.true (omega (arith, c.requires.count_bound.0, c.loop-i.invariant.0.0.1)) in
-    let p = c.args.page in (
-      ((omega arith, c.loop-i.invariant.0.0.1), c.loop-i.invariant.0.1),
-      (
-        (c.loop-i.invariant.1.0.0, next_bound p c.loop-i.left c.loop-i.at END (omega arith) c.loop-i.invariant.1.0.1),
-        c.loop-i.invariant.1.1 ∙ rw (pages-left, next_start p c.loop-i.left c.loop-i.at _ (omega arith), eq-eqb _ _ c.if-g-at.false),
-      ),
+pub overflow_add-at : goal.overflow_add-at
+overflow_add-at c =
+    let j = (goal.at.overflow_add-at c).Joined-left-eq0 in
+    let s = c.if-left-eq0 in
+    omega (arith, next_bound c.args.pool.now.page s.left s.at END (stands j).0.1 (stands j).0.0.1.1)
+
+pub overflow_sub-left : goal.overflow_sub-left
+overflow_sub-left c = omega (arith, (stands (goal.at.overflow_sub-left c).Joined-left-eq0).0.1)
+
+pub loop-g-preserved : goal.loop-g-preserved
+loop-g-preserved c =
+    let j = (goal.at.loop-g-preserved c).Joined-left-eq0 in
+    let s = c.if-left-eq0 in
+    let k = stands j in (
+      (k.0.0.0, (k.0.0.1.0, next_bound c.args.pool.now.page s.left s.at END k.0.1 k.0.0.1.1)),
+      k.1 ∙ rw (next-page j, next_start c.args.pool.now.page s.left s.at _ k.0.1, eq-eqb _ _ c.if-g-at.false),
     )
 
-pub returns-then-left-ne0 : goal.returns-then-left-ne0
-unfolding pages_of
-returns-then-left-ne0 c =
-    let pages-end : drop c.loop-i.i (map at-start (pages_of c.args.t)) ≡ [] = let t = c.args.t in
-    ends-map at-start t.count t.cells c.loop-i.i (omega arith) in
-    sym (c.loop-i.invariant.1.1 ∙ rw (pages-end, next_start c.args.page c.loop-i.left c.loop-i.at _ (omega arith)))
+pub returns-then-left-eq0-2 : goal.returns-then-left-eq0-2
+returns-then-left-eq0-2 c =
+    let p = c.args.pool.now in
+    let l = c.loop-g in
+    let took = c.take_next-then-left-eq0-2 in
+    let ended : drop l.g-index c.entries-g-items.result.now ≡ [] = drop_of_length-le c.entries-g-items.result.now {i = l.g-index} (omega (arith, c.loop-g-test.false)) in
+    ends p.page c.requires.count_bound.1 (left_of l.spans) (left_of took.new.self) took.result c.is_none.result c.is_none.ensures took.ensures.next l.invariant.0.1.0
+    ∙ sym (l.invariant.1 ∙ rw (c.if-left-eq0-2.true, ended))
 
-pub returns : goal.returns
-unfolding free_of live_of pages_of
-returns c =
-    let f-left : List Range = drop c.loop-i.j (frees c.args.free) in
-    let b-left : List Range = drop c.loop-i.k (lives c.args.live) in
-    let most_f : c.args.free.count ≤ SPANS = omega (arith, c.requires.count_bound.1.0) in
-    let room_f : c.args.free.count ≤ length c.args.free.cells = omega (arith, most_f, c.loop-i.invariant.0.1.1.0) in
-    let most_b : c.args.live.count ≤ SPANS = omega (arith, c.requires.count_bound.1.0) in
-    let room_b : c.args.live.count ≤ length c.args.live.cells = omega (arith, most_b, c.loop-i.invariant.0.1.1.1) in
-    let length-spans : length (f-left ++ b-left) ≡ (c.args.free.count - c.loop-i.j) + (c.args.live.count - c.loop-i.k) = let a = c.args in
-    rw (
-      length-append f-left b-left,
-      length-left of_free a.free.count a.free.cells c.loop-i.j room_f,
-      length-left of_live a.live.count a.live.cells c.loop-i.k room_b,
-    ) in
-    let none_left : c.args.free.count + c.args.live.count ≤ c.loop-i.j + c.loop-i.k → f-left ++ b-left ≡ [] = λ h. let a = c.args in
-    rw (
-      ends-map of_free a.free.count a.free.cells c.loop-i.j (omega (arith, h, c.loop-i.invariant.0.1.0)),
-      ends-map of_live a.live.count a.live.cells c.loop-i.k (omega (arith, h, c.loop-i.invariant.0.1.0)),
-    ) in
-    let pages-end : drop c.loop-i.i (map at-start (pages_of c.args.t)) ≡ [] = let t = c.args.t in
-    ends-map at-start t.count t.cells c.loop-i.i (omega arith) in
-    let a = c.args in
-    let p = a.page in
-    let l = f-left ++ b-left in
-    let all : same (map at-start (pages_of a.t)) (page_starts p (sorted start (frees a.free ++ lives a.live))) ≡ same [] (page_starts p (sorted start l)) =
-    c.loop-i.invariant.1.1 ∙ rw (pages-end, c.if-left-ne0.false) in
-    rw all
-    (⊎_elim
-    (λ h.
-    rw (ne_eqb (c.loop-i.j + c.loop-i.k) (a.free.count + a.live.count) (λ q. omega (arith, h, q)))
-    (sym (some-starts p (sorted start l) c.requires.count_bound.1.1 (omega (arith, h, length-spans, length-sorted start l, c.loop-i.invariant.0.1.0)) (all-sorted start (Spanned p) l c.loop-i.invariant.1.0.0))))
-    (λ h. rw (eq-eqb (c.loop-i.j + c.loop-i.k) (a.free.count + a.live.count) (omega (arith, h, c.loop-i.invariant.0.1.0)), none_left h))
-    (cases_lt (c.loop-i.j + c.loop-i.k) (a.free.count + a.live.count)))
+pub returns-else-left-eq0-2 : goal.returns-else-left-eq0-2
+returns-else-left-eq0-2 c =
+    let l = c.loop-g in
+    let some : 0 < l.left = omega (arith, c.if-left-eq0-2.false) in
+    let ended : drop l.g-index c.entries-g-items.result.now ≡ [] = drop_of_length-le c.entries-g-items.result.now {i = l.g-index} (omega (arith, c.loop-g-test.false)) in
+    rw (ne_eqb _ _ c.if-left-eq0-2.false) (sym (l.invariant.1 ∙ rw (ended, next_start c.args.pool.now.page l.left l.at _ some)))

@@ -1,22 +1,21 @@
--- `pool_soundness::roots::is_inside` meets its contract. The invariant: the sum over all roots is what is summed and the sum over those left; with each root it
--- grows by at most `va`.
-use mathlib.Core.Path.{◌≡◌, sym, ◌∙◌}
+-- `pool_soundness::roots::is_inside` meets its contract: with each root the sum grows by at most `va`.
+use mathlib.Core.Path.{◌≡◌, sym, ap, ◌∙◌}
 use mathlib.Core.List.{◌∷◌}
 use Prim.Native.Nat.{ℕ, ◌+◌, ◌≤◌}
 use native.Mathlib.Omega.{arith}
-use borrow.Author.Rules.{rules}
-use borrow.Author.Tests.{eq-eqb, ne_eqb}
-use lib.ListN.{drop, get_or}
-use Rattle.lists.specs.Tests.{All}
+use borrow.Author.Tests.{eq-eqb}
+use lib.ListN.{length, drop, length-take}
 use Rattle.lists.proofs.Every.{pairwise-pairs}
-use Rattle.lists.proofs.Cells.{turn, ends}
-use Rattle.tables.specs.Bounds.{END}
+use Rattle.lists.proofs.Cells.{turn-all}
+use Rattle.cells.specs.Table.{entries}
+use Rattle.tables.specs.Bounds.{ROOTS}
 use Rattle.tables.specs.Values.{roots_of, address}
 use Rattle.tables.specs.WellFormed.{range, common}
 use Rattle.keeping.proofs.Counting.{parted-once}
 use Rattle.keeping.proofs.Inside.{inside-most}
 use Rattle.keeping.proofs.WellFormedTests.{apart_of}
 use Rattle.pool_soundness.specs.Tests.{bytes_inside}
+use Rattle.pool_soundness.specs.Walks.{range_of}
 use Rattle.pool_soundness.proofs.roots.is_inside.Goals as goal
 
 common-most : (from size a va : ℕ) → common (range from size) (range a va) ≤ va
@@ -25,60 +24,26 @@ common-most from size a va = omega arith
 whole_sum : (all sum next rest size : ℕ) → all ≡ sum + (next + rest) → sum + next ≡ size → all ≤ size → all ≡ size
 whole_sum all sum next rest size e f g = omega arith
 
-next-sum : (all sum next rest : ℕ) → all ≡ sum + (next + rest) → all ≡ sum + next + rest
-next-sum all sum next rest e = omega arith
-
-pub common_bytes-sum-requires : goal.common_bytes-sum-requires
-unfolding roots_of
-common_bytes-sum-requires c =
-    let ended : let a = c.args in
-    All (λ r. r.0 + a.va ≤ END) (get_or a.roots.cells c.loop-i.i (address 0) ∷ drop (c.loop-i.i + 1) (roots_of a.roots)) = let t = c.args.roots in
-    rw (turn t.count t.cells c.loop-i.i (address 0) (omega arith) (omega arith)) at c.loop-i.invariant.0.1.1 in (search rules, ended.0)
-
-pub returns-then-sum-size : goal.returns-then-sum-size
-unfolding roots_of
-returns-then-sum-size c =
-    let here : let a = c.args in
-    let h = range a.from a.size in
-    bytes_inside a.va (roots_of a.roots) h
-    ≡ c.loop-i.sum
-    + (common h (range (get_or a.roots.cells c.loop-i.i (address 0)).0 a.va) + bytes_inside a.va (drop (c.loop-i.i + 1) (roots_of a.roots)) h) = let t = c.args.roots in
-    c.loop-i.invariant.1.0 ∙ rw (turn t.count t.cells c.loop-i.i (address 0) (omega arith) (omega arith)) in
-    let sums : let a = c.args in
-    bytes_inside a.va (roots_of a.roots) (range a.from a.size)
-    ≡ c.loop-i.sum + (c.common_bytes-sum.result + bytes_inside a.va (drop (c.loop-i.i + 1) (roots_of a.roots)) (range a.from a.size)) = rw c.common_bytes-sum.ensures here in
-    let most : bytes_inside c.args.va (roots_of c.args.roots) (range c.args.from c.args.size) ≤ c.args.size = let a = c.args in
-    let l = roots_of a.roots in
-    inside-most (λ r. r.0) (λ r. a.va) l (parted-once (λ r. r.0) (λ r. a.va) l (pairwise-pairs _ _ (apart_of a.va) l c.requires.roots_apart)) a.from a.size in
-    let a = c.args in
-    sym (eq-eqb (bytes_inside a.va (roots_of a.roots) (range a.from a.size)) a.size
-    (whole_sum _ c.loop-i.sum c.common_bytes-sum.result _ a.size sums c.if-sum-size.true most))
-
-pub loop-i-preserved : goal.loop-i-preserved
-unfolding roots_of
-loop-i-preserved c =
-    let ended : let a = c.args in
-    All (λ r. r.0 + a.va ≤ END) (get_or a.roots.cells c.loop-i.i (address 0) ∷ drop (c.loop-i.i + 1) (roots_of a.roots)) = let t = c.args.roots in
-    rw (turn t.count t.cells c.loop-i.i (address 0) (omega arith) (omega arith)) at c.loop-i.invariant.0.1.1 in
+pub overflow_add-sum : goal.overflow_add-sum
+unfolding entries
+overflow_add-sum c =
+    let t = c.args.roots.now in
+    let l = c.entries-a-items.result.now in
+    let n : length l ≤ ROOTS = rw c.entries-a-items.ensures (omega (arith, length-take t.count t.cells, c.requires.few)) in
     let took : c.common_bytes-sum.result ≤ c.args.va = rw c.common_bytes-sum.ensures (common-most _ _ _ _) in
-    let here : let a = c.args in
-    let h = range a.from a.size in
-    bytes_inside a.va (roots_of a.roots) h
-    ≡ c.loop-i.sum
-    + (common h (range (get_or a.roots.cells c.loop-i.i (address 0)).0 a.va) + bytes_inside a.va (drop (c.loop-i.i + 1) (roots_of a.roots)) h) = let t = c.args.roots in
-    c.loop-i.invariant.1.0 ∙ rw (turn t.count t.cells c.loop-i.i (address 0) (omega arith) (omega arith)) in
-    let sums : let a = c.args in
-    bytes_inside a.va (roots_of a.roots) (range a.from a.size)
-    ≡ c.loop-i.sum + (c.common_bytes-sum.result + bytes_inside a.va (drop (c.loop-i.i + 1) (roots_of a.roots)) (range a.from a.size)) = rw c.common_bytes-sum.ensures here in (
-      ((search rules, search rules), (omega (arith, took), ended.1)),
-      (next-sum _ c.loop-i.sum c.common_bytes-sum.result _ sums, c.if-sum-size.false),
-    )
+    omega (arith, took, n, c.loop-a.invariant.0.0)
 
-pub returns : goal.returns
-unfolding roots_of
-returns c =
+pub returns-then-sum-x : goal.returns-then-sum-x
+returns-then-sum-x c =
     let a = c.args in
-    let t = a.roots in
-    let e : bytes_inside a.va (roots_of t) (range a.from a.size) ≡ c.loop-i.sum + 0 =
-    rw (ends t.count t.cells c.loop-i.i (omega arith)) at c.loop-i.invariant.1.0 in
-    sym (ne_eqb (bytes_inside a.va (roots_of t) (range a.from a.size)) a.size (λ q. c.loop-i.invariant.1.1 (omega (arith, e, q))))
+    let h = range_of a.x in
+    let l = c.entries-a-items.result.now in
+    let all = roots_of a.roots.now in
+    let next : drop c.loop-a.a-index l ≡ _ ∷ drop (c.loop-a.a-index + 1) l = turn-all l c.loop-a.a-index (address 0) (omega arith) in
+    let here : bytes_inside a.va l h ≡ c.loop-a.sum + (c.common_bytes-sum.result + bytes_inside a.va (drop (c.loop-a.a-index + 1) l) h) =
+    c.loop-a.invariant.1.0 ∙ rw (next, c.common_bytes-sum.ensures) in
+    let same : bytes_inside a.va l h ≡ bytes_inside a.va all h = ap (λ l. bytes_inside a.va l h) c.entries-a-items.ensures in
+    let most : bytes_inside a.va all h ≤ a.x.size =
+    inside-most (λ r. r.0) (λ r. a.va) all (parted-once (λ r. r.0) (λ r. a.va) all (pairwise-pairs _ _ (apart_of a.va) all c.requires.roots_apart)) a.x.from a.x.size in
+    sym (eq-eqb (bytes_inside a.va all h) a.x.size
+    (whole_sum _ c.loop-a.sum c.common_bytes-sum.result _ a.x.size (sym same ∙ here) c.if-sum-x.true most))

@@ -1,52 +1,21 @@
--- `pool_soundness::roots::roots_aligned` meets its contract. The invariant: the test of all is the test of those left.
-use mathlib.Core.Path.{◌≡◌, ◌∙◌, sym}
-use mathlib.Core.Bool.{Bool, ◌&&◌, and-false}
-use Prim.Native.Nat.{ℕ, ◌+◌, ◌-◌}
-use native.Mathlib.Omega.{arith}
-use borrow.Author.Rules.{rules}
-use borrow.Author.Tests.{le-leb, lt-leb}
+-- `pool_soundness::roots::roots_aligned` meets its contract.
+use mathlib.Core.Path.{◌∙◌}
+use mathlib.Core.Bool.{Bool, ◌&&◌}
+use Prim.Native.Nat.{◌-◌}
 use lib.Dec.{leb}
-use lib.ListN.{drop, get_or}
-use Rattle.lists.specs.Tests.{every}
-use Rattle.lists.proofs.Cells.{turn, ends}
+use Rattle.std.proofs.Common.{rules, tests}
+use Rattle.std.proofs.lemmas.Iterator.{YieldsList-from_slice}
+use Rattle.std.proofs.lemmas.Iterator.Search.{all_from_yields_List}
 use Rattle.words.specs.declared.Address.{Address}
 use Rattle.tables.specs.Bounds.{END}
-use Rattle.tables.specs.Values.{roots_of, address}
+use Rattle.tables.specs.Values.{roots_of}
 use Rattle.tables.specs.WellFormed.{whole}
+use Rattle.plain_tables.proofs.Chosen.{every_is}
 use Rattle.pool_soundness.proofs.roots.roots_aligned.Goals as goal
 
-abbrev aligned : ℕ → ℕ → Address → Bool
-aligned page va a = whole page a.0 && leb a.0 (END - va)
-
-pub returns-then-not-is_whole : goal.returns-then-not-is_whole
-unfolding roots_of
-returns-then-not-is_whole c =
-    let here : let a = c.args in
-    let r = get_or a.t.cells c.loop-i.i (address 0) in
-    every (aligned a.page a.va) (roots_of a.t)
-    ≡ ((c.is_whole.result && leb r.0 (END - a.va)) && every (aligned a.page a.va) (drop (c.loop-i.i + 1) (roots_of a.t))) = let t = c.args.t in
-    c.loop-i.invariant.1 ∙ rw (turn t.count t.cells c.loop-i.i (address 0) (omega arith) (omega arith), c.is_whole.ensures) in sym (here ∙ rw c.if-not-is_whole.true)
-
-pub returns-then-highest-a : goal.returns-then-highest-a
-unfolding roots_of
-returns-then-highest-a c =
-    let here : let a = c.args in
-    let r = get_or a.t.cells c.loop-i.i (address 0) in
-    every (aligned a.page a.va) (roots_of a.t)
-    ≡ ((c.is_whole.result && leb r.0 (END - a.va)) && every (aligned a.page a.va) (drop (c.loop-i.i + 1) (roots_of a.t))) = let t = c.args.t in
-    c.loop-i.invariant.1 ∙ rw (turn t.count t.cells c.loop-i.i (address 0) (omega arith) (omega arith), c.is_whole.ensures) in sym (here ∙ simp (lt-leb _ _ c.if-highest-a.true, and-false))
-
-pub loop-i-preserved : goal.loop-i-preserved
-unfolding roots_of
-loop-i-preserved c =
-    let here : let a = c.args in
-    let r = get_or a.t.cells c.loop-i.i (address 0) in
-    every (aligned a.page a.va) (roots_of a.t)
-    ≡ ((c.is_whole.result && leb r.0 (END - a.va)) && every (aligned a.page a.va) (drop (c.loop-i.i + 1) (roots_of a.t))) = let t = c.args.t in
-    c.loop-i.invariant.1 ∙ rw (turn t.count t.cells c.loop-i.i (address 0) (omega arith) (omega arith), c.is_whole.ensures) in ((search rules, search rules), here ∙ rw (c.if-not-is_whole.false, le-leb _ _ c.if-highest-a.false))
-
 pub returns : goal.returns
-unfolding roots_of
 returns c =
-    let t = c.args.t in
-    sym (c.loop-i.invariant.1 ∙ rw (ends t.count t.cells c.loop-i.i (omega arith)))
+    let l = roots_of c.args.roots.now in
+    let test : Address → Bool = λ a. whole c.args.page a.0 && leb a.0 (END - c.args.va) in
+    all_from_yields_List test _ _ c.all.result c.all.ensures.ran (YieldsList-from_slice l (c.iter.ensures.rest ∙ c.entries.ensures))
+    (λ a b q k. search (rules, tests)) ∙ every_is test l

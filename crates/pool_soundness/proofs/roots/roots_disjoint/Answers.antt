@@ -1,53 +1,24 @@
--- `pool_soundness::roots::roots_disjoint` meets its contract. The invariants: the test of all pairs is that of the pairs of those left; and, of the pairs of one root,
--- that of those left.
-use mathlib.Core.Path.{◌≡◌, ◌∙◌, sym}
-use mathlib.Core.Bool.{Bool, ◌&&◌}
-use Prim.Native.Nat.{ℕ, ◌+◌}
-use native.Mathlib.Omega.{arith}
-use borrow.Author.Rules.{rules}
-use lib.ListN.{drop, get_or}
+-- `pool_soundness::roots::roots_disjoint` meets its contract.
+use mathlib.Core.Path.{◌≡◌, ap, sym, ◌∙◌}
+use mathlib.Core.Bool.{Bool, true}
+use mathlib.Core.List.{◌∷◌}
+use Rattle.std.proofs.Common.{rules, tests}
+use Rattle.std.proofs.lemmas.Iterator.{YieldsList-from_slice}
+use Rattle.std.proofs.lemmas.Iterator.Search.{all_from_yields_List}
 use Rattle.lists.specs.Tests.{every, pairwise}
-use Rattle.lists.proofs.Cells.{turn, ends}
 use Rattle.words.specs.declared.Address.{Address}
-use Rattle.tables.specs.Values.{roots_of, address}
 use Rattle.tables.specs.TakeRange.{apart}
+use Rattle.plain_tables.proofs.Chosen.{every_is}
 use Rattle.pool_soundness.proofs.roots.roots_disjoint.Goals as goal
 
-abbrev parted : ℕ → Address → Address → Bool
-parted va a b = apart va a.0 b.0
-
-pub loop-j-init : goal.loop-j-init
-unfolding roots_of
-loop-j-init c =
-    let t = c.args.t in
-    (search rules, c.loop-i.invariant.1 ∙ rw (turn t.count t.cells c.loop-i.i (address 0) (omega arith) (omega arith)))
-
-pub returns-then-not-is_apart : goal.returns-then-not-is_apart
-unfolding roots_of
-returns-then-not-is_apart c =
-    let here : let va = c.args.va in
-    let l = roots_of c.args.t in
-    let a = get_or c.args.t.cells c.loop-i.i (address 0) in
-    pairwise (parted va) l ≡ ((c.is_apart.result && every (parted va a) (drop (c.loop-j.j + 1) l)) && pairwise (parted va) (drop (c.loop-i.i + 1) l)) = let t = c.args.t in
-    c.loop-j.invariant.1 ∙ rw (turn t.count t.cells c.loop-j.j (address 0) (omega arith) (omega arith), c.is_apart.ensures) in sym (here ∙ rw c.if-not-is_apart.true)
-
-pub loop-j-preserved : goal.loop-j-preserved
-unfolding roots_of
-loop-j-preserved c =
-    let here : let va = c.args.va in
-    let l = roots_of c.args.t in
-    let a = get_or c.args.t.cells c.loop-i.i (address 0) in
-    pairwise (parted va) l ≡ ((c.is_apart.result && every (parted va a) (drop (c.loop-j.j + 1) l)) && pairwise (parted va) (drop (c.loop-i.i + 1) l)) = let t = c.args.t in
-    c.loop-j.invariant.1 ∙ rw (turn t.count t.cells c.loop-j.j (address 0) (omega arith) (omega arith), c.is_apart.ensures) in (search rules, here ∙ rw c.if-not-is_apart.false)
-
-pub loop-i-preserved : goal.loop-i-preserved
-unfolding roots_of
-loop-i-preserved c =
-    let t = c.args.t in
-    ((search rules, search rules), c.loop-j.invariant.1 ∙ rw (ends t.count t.cells c.loop-j.j (omega arith)))
-
-pub returns : goal.returns
-unfolding roots_of
-returns c =
-    let t = c.args.t in
-    sym (c.loop-i.invariant.1 ∙ rw (ends t.count t.cells c.loop-i.i (omega arith)))
+pub loop-a-preserved : goal.loop-a-preserved
+loop-a-preserved c =
+    let va = c.args.va in
+    let a = c.in-Some.a.now in
+    let l = c.in-Some.rest.now in
+    let test : Address → Bool = λ b. apart va a.0 b.0 in
+    let left : c.loop-a.left.now ≡ a ∷ l = c.in-Some.ensures.cases.0 in
+    let all : c.all.result ≡ every test l =
+    all_from_yields_List test _ _ c.all.result c.all.ensures.ran (YieldsList-from_slice l c.iter.ensures.rest) (λ b r q k. search (rules, tests)) ∙ every_is test l in
+    let passed : every test l ≡ true = sym all ∙ c.if-not-all.false in
+    c.loop-a.invariant ∙ ap (pairwise (λ a b. apart va a.0 b.0)) left ∙ rw passed

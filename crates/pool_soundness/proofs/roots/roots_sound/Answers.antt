@@ -3,11 +3,10 @@ use mathlib.Core.Path.{sym, ◌∙◌}
 use Rattle.pool_soundness.specs.Tests.{roots_pass}
 use Rattle.pool_soundness.proofs.roots.roots_sound.Goals as goal
 
-pub returns-then-not-roots_disjoint : goal.returns-then-not-roots_disjoint
+pub returns-then-roots_disjoint : goal.returns-then-roots_disjoint
 unfolding roots_pass
-returns-then-not-roots_disjoint c = rw (sym c.roots_disjoint.ensures ∙ c.if-not-roots_disjoint.true)
+returns-then-roots_disjoint c = rw (sym c.roots_disjoint.ensures ∙ c.if-roots_disjoint.true) c.roots_aligned.ensures
 
-pub returns : goal.returns
+pub returns-else-roots_disjoint : goal.returns-else-roots_disjoint
 unfolding roots_pass
-returns c =
-    rw (sym c.roots_disjoint.ensures ∙ c.if-not-roots_disjoint.false) c.roots_aligned.ensures
+returns-else-roots_disjoint c = rw (sym c.roots_disjoint.ensures ∙ c.if-roots_disjoint.false) c.if-roots_disjoint.false

@@ -1,37 +1,17 @@
--- `small_buffers::table::is_in_roots` meets its contract. The invariant: the test of all is the test of those left; `here` is what that comes to at a turn.
-use mathlib.Core.Path.{◌≡◌, sym, ◌∙◌}
-use mathlib.Core.Bool.{◌&&◌, ◌||◌}
-use Prim.Native.Nat.{ℕ, ◌+◌, ◌≤◌, ◌<◌}
-use native.Mathlib.Omega.{arith}
-use borrow.Author.Rules.{rules}
+-- `small_buffers::table::is_in_roots` meets its contract.
+use mathlib.Core.Path.{◌∙◌}
+use mathlib.Core.Bool.{Bool, ◌&&◌}
+use Prim.Native.Nat.{◌+◌}
 use lib.Dec.{ltb, leb}
-use lib.ListN.{length, drop, get_or}
-use Rattle.lists.proofs.Cells.{turn, ends}
-use Rattle.tables.specs.Values.{address, roots_of}
-use Rattle.tables.specs.declared.Roots.{Roots}
-use Rattle.manager_rules.specs.Malloc.{in_roots}
+use Rattle.std.proofs.Common.{rules, tests}
+use Rattle.std.proofs.lemmas.Iterator.{YieldsList-from_slice}
+use Rattle.std.proofs.lemmas.Iterator.Search.{any_from_yields_List}
+use Rattle.words.specs.declared.Address.{Address}
+use Rattle.small_buffers.proofs.Rows.{any_is}
 use Rattle.small_buffers.proofs.table.is_in_roots.Goals as goal
 
--- what the test of those left comes to at a turn
-here : (va : ℕ) (t : Roots) (pointer i : ℕ) → i < t.count → t.count ≤ length t.cells →
-    let base = (get_or t.cells i (address 0)).0 in
-    in_roots va (drop i (roots_of t)) pointer
-    ≡ ((leb base pointer && ltb pointer (base + va)) || in_roots va (drop (i + 1) (roots_of t)) pointer)
-unfolding roots_of
-here va t pointer i h k = rw (turn t.count t.cells i (address 0) h k)
-
-pub returns-then-is_inside : goal.returns-then-is_inside
-returns-then-is_inside c =
-    let h = here c.args.va c.args.t c.args.pointer c.loop-i.i (omega arith) (omega arith) in
-    sym (c.loop-i.invariant.1.1 ∙ h ∙ rw (← c.is_inside.ensures, c.if-is_inside.true))
-
-pub loop-i-preserved : goal.loop-i-preserved
-loop-i-preserved c =
-    let h = here c.args.va c.args.t c.args.pointer c.loop-i.i (omega arith) (omega arith) in
-    ((search rules, search rules), (search rules, c.loop-i.invariant.1.1 ∙ h ∙ rw (← c.is_inside.ensures, c.if-is_inside.false)))
-
 pub returns : goal.returns
-unfolding roots_of
 returns c =
-    let t = c.args.t in
-    rw (c.loop-i.invariant.1.1, ends t.count t.cells c.loop-i.i (omega arith))
+    let l = c.args.roots.now in
+    let inside : Address → Bool = λ r. leb r.0 c.args.pointer && ltb c.args.pointer (r.0 + c.args.va) in
+    any_from_yields_List inside _ _ c.any.result c.any.ensures.ran (YieldsList-from_slice l cc) (λ x b q k. search (rules, tests)) ∙ any_is inside l

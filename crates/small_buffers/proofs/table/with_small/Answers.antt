@@ -1,38 +1,20 @@
--- `small_buffers::table::with_small` meets its contract. The invariant: the cells hold the rows passed, and 0 behind them.
-use mathlib.Core.Path.{◌≡◌, ap}
-use Prim.Native.Nat.{◌+◌}
-use native.Mathlib.Omega.{arith}
-use borrow.Author.Rules.{rules}
-use lib.ListN.{length, set, length-take}
-use Rattle.lists.proofs.Tests.{length-mapped}
+-- `small_buffers::table::with_small` meets its contract: the cells past the count are emptied, and then it is a push.
+use mathlib.Core.Path.{ap, ◌∙◌}
 use mathlib.Core.List.{[], ◌∷◌, ◌++◌}
-use Rattle.lists.specs.Cells.{packed}
-use Rattle.lists.proofs.Pushed.{length_push}
+use native.Mathlib.Omega.{arith}
+use Rattle.cells.specs.Table.{entries}
+use Rattle.cells.proofs.Packs.{entries_pack, kept, packed_count}
 use Rattle.manager_rules.specs.Values.{SMALLS, small_of, pack_small, empty_small}
-use Rattle.small_buffers.proofs.Rows.{packed_push, packed-next}
+use Rattle.small_buffers.proofs.Rows.{few_entries}
 use Rattle.small_buffers.proofs.table.with_small.Goals as goal
 
-pub loop-i-init : goal.loop-i-init
-unfolding pack_small
-loop-i-init c = ((search rules, search (rules, length-mapped)), ap (λ t. t.cells) c.empty-out.ensures)
-
-pub loop-i-preserved : goal.loop-i-preserved
-loop-i-preserved c =
-    let cells = c.args.t.cells in
-    ((search rules, search rules), rw c.loop-i.invariant.1 (packed-next SMALLS empty_small cells c.loop-i.i (omega arith) (omega arith)))
+pub push-requires : goal.push-requires
+push-requires c =
+    let l = small_of c.args.small.now in
+    let few = few_entries c.args.small.now in
+    (omega arith, rw c.clear_rest.ensures (kept empty_small l (omega (arith, few, c.requires)), rw (packed_count SMALLS empty_small l) (omega (arith, few, c.requires))))
 
 pub returns : goal.returns
-unfolding small_of pack_small
 returns c =
-    let a = c.args in
-    let l = small_of a.t in
-    let n : length l ≡ a.t.count = simp length-take (omega arith) in
-    let e : c.loop-i.i ≡ a.t.count = omega arith in
-    let m : a.t.count + 1 ≡ length (l ++ a.b ∷ []) = omega (arith, length_push l a.b) in
-    let s = rw e at c.loop-i.invariant.1 in
-    let w : set c.loop-i.out.cells a.t.count a.b ≡ packed SMALLS empty_small (l ++ a.b ∷ []) =
-    rw s (packed_push SMALLS empty_small l a.t.count a.b n (omega arith)) in
-    λ i. record {
-      cells = w i;
-      count = m i;
-    }
+    c.push.ensures
+    ∙ ap (λ m. pack_small (m ++ c.args.b ∷ [])) (ap entries c.clear_rest.ensures ∙ entries_pack SMALLS empty_small (small_of c.args.small.now))

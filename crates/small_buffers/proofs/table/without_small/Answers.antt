@@ -1,41 +1,49 @@
--- `small_buffers::table::without_small` meets its contract. The invariant: the cells hold those of the rows passed that stay (`Compact`).
-use mathlib.Core.Path.{ap, ◌∙◌}
+-- `small_buffers::table::without_small` meets its contract. The invariant: those of the buffers passed that stay.
+use mathlib.Core.Path.{sym, ap, ◌∙◌}
+use mathlib.Core.Bool.{not}
+use mathlib.Core.List.{◌∷◌, ◌++◌, []}
+use Prim.Native.Nat.{◌<◌, ◌≤◌}
 use native.Mathlib.Omega.{arith}
-use borrow.Author.Rules.{rules}
-use lib.ListN.{length}
-use Rattle.lists.proofs.Tests.{length-mapped}
-use borrow.Author.Tests.{eq-eqb, ne_eqb}
-use Rattle.lists.specs.Cells.{packed}
-use Rattle.lists.proofs.Cells.{turn, ends}
-use Rattle.lists.proofs.Filled.{filled-count}
-use Rattle.lists.proofs.Compact.{compact-starts, compact-passes, compact_skips, compact-ends}
-use Rattle.manager_rules.specs.Values.{SMALLS, small_of, pack_small, empty_small}
+use lib.Dec.{eqb}
+use lib.ListN.{length, take, get_or, length-take}
+use Rattle.lists.specs.Order.{without}
+use Rattle.lists.proofs.Tests.{length-filter}
+use Rattle.cells.specs.Table.{entries}
+use Rattle.cells.proofs.Packs.{entries_pack, kept, packed_count}
+use Rattle.manager_rules.specs.Values.{SMALLS, pack_small, empty_small}
+use Rattle.small_buffers.proofs.Rows.{few_entries, without-stays, without-goes}
 use Rattle.small_buffers.proofs.table.without_small.Goals as goal
 use Rattle.small_buffers.proofs.table.without_small.Goals.{then-b-pointer, else-b-pointer}
 
-pub loop-i-init : goal.loop-i-init
-unfolding pack_small
-loop-i-init c = ((search rules, search (rules, length-mapped)), rw (ap (λ t. t.cells) c.empty-out.ensures) compact-starts)
+pub push-requires : goal.push-requires
+push-requires c =
+    let v = c.loop-b in
+    let l = c.entries-b-items.result.now in
+    let first = take v.b-index l in
+    let stay = without (λ b. b.pointer) c.args.pointer first in
+    let some : length first ≤ v.b-index = simp length-take (omega arith) in
+    let few : length stay < SMALLS =
+    omega (
+      arith,
+      length-filter (λ b. not (eqb b.pointer c.args.pointer)) first,
+      some,
+      c.loop-b-test.true,
+      few_entries c.args.small.now,
+      ap length c.entries-b-items.ensures,
+      c.requires,
+    ) in
+    (omega arith, rw v.invariant (kept empty_small stay (omega arith), rw (packed_count SMALLS empty_small stay) few))
 
-pub loop-i-preserved : goal.loop-i-preserved
-unfolding small_of
-loop-i-preserved c =
-    let t = c.args.t in
-    let left = turn t.count t.cells c.loop-i.i empty_small (omega arith) (omega arith) in
-    let k = c.loop-i.invariant.1 in (
-      (search rules, search rules),
-      elim c.if-b-pointer.branch [
-        | then-b-pointer w ↦ rw (w.out-is, w.n-is) (compact-passes left k (rw (ne_eqb _ _ w.if-b-pointer.true)) (omega arith))
-        | else-b-pointer w ↦ rw (w.out-is, w.n-is) (compact_skips left k (rw (eq-eqb _ _ w.if-b-pointer.false)))
-      ],
-    )
-
-pub returns : goal.returns
-unfolding small_of pack_small
-returns c =
-    let t = c.args.t in
-    let k = c.loop-i.invariant.1 in
-    let e = compact-ends (ends t.count t.cells c.loop-i.i (omega arith)) k in
-    let w = k.filled.whole ∙ ap (packed SMALLS empty_small) e in
-    let m = filled-count k.filled ∙ ap length e in
-    λ i. record { cells = w i; count = m i }
+pub loop-b-preserved : goal.loop-b-preserved
+loop-b-preserved c =
+    let v = c.loop-b in
+    let l = c.entries-b-items.result.now in
+    let stay = without (λ b. b.pointer) c.args.pointer (take v.b-index l) in
+    let x = get_or l v.b-index empty_small in
+    elim c.if-b-pointer.branch [
+      | then-b-pointer w ↦
+          w.others-is ∙ w.push.ensures ∙ ap (λ m. pack_small (m ++ x ∷ [])) (ap entries v.invariant ∙ entries_pack SMALLS empty_small stay)
+          ∙ ap pack_small (sym (without-stays (λ b. b.pointer) c.args.pointer l v.b-index empty_small c.loop-b-test.true w.if-b-pointer.true))
+      | else-b-pointer w ↦
+          w.others-is ∙ v.invariant ∙ ap pack_small (sym (without-goes (λ b. b.pointer) c.args.pointer l v.b-index empty_small c.loop-b-test.true w.if-b-pointer.false))
+    ]

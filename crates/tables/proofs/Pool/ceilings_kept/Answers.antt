@@ -25,23 +25,23 @@ unfolding ceilings_kept
 returns-then-self-gt-PAGES c = rw (lt-leb _ PAGES c.if-self-gt-PAGES.true)
 
 pub returns-then-self-gt-SPANS : goal.returns-then-self-gt-SPANS
-returns-then-self-gt-SPANS c = too_many c.args.self (omega arith) (omega arith)
+returns-then-self-gt-SPANS c = too_many c.args.self.now (omega arith) (omega arith)
 
 pub returns-then-self : goal.returns-then-self
-returns-then-self c = too_many c.args.self (omega arith) (omega arith)
+returns-then-self c = too_many c.args.self.now (omega arith) (omega arith)
 
 pub returns-then-self-gt-ZOMBIES : goal.returns-then-self-gt-ZOMBIES
 unfolding ceilings_kept
 returns-then-self-gt-ZOMBIES c =
-    let p = c.args.self in
+    let p = c.args.self.now in
     rw (le-leb p.pages.count PAGES (omega arith), le-leb (p.free.count + p.live.count) SPANS (omega arith), lt-leb _ ZOMBIES c.if-self-gt-ZOMBIES.true)
 
 pub returns-then-self-2 : goal.returns-then-self-2
 returns-then-self-2 c =
-    let p = c.args.self in
+    let p = c.args.self.now in
     rw (others p (omega arith) (omega arith) (omega arith), lt-leb (p.holes.count + p.zombies.count) HOLES (omega arith))
 
 pub returns : goal.returns
 returns c =
-    let p = c.args.self in
+    let p = c.args.self.now in
     rw (others p (omega arith) (omega arith) (omega arith), le-leb (p.holes.count + p.zombies.count) HOLES (omega arith))

@@ -1,7 +1,0 @@
--- `driving::create` meets its contract, by the promise of `hear`.
-use Rattle.tables.specs.Driver.{create}
-use Rattle.driving.proofs.create.Goals as goal
-
-pub returns : goal.returns
-unfolding create
-returns c = c.hear.ensures

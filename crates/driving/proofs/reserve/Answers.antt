@@ -1,7 +1,0 @@
--- `driving::reserve` meets its contract, by the promise of `hear`.
-use Rattle.tables.specs.Driver.{reserve}
-use Rattle.driving.proofs.reserve.Goals as goal
-
-pub returns : goal.returns
-unfolding reserve
-returns c = c.hear.ensures

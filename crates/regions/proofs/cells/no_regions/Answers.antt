@@ -1,8 +1,0 @@
--- `no_regions` meets its contract by computation.
-use mathlib.Core.Path.{refl}
-use Rattle.tables.specs.Values.{pack_free}
-use Rattle.regions.proofs.cells.no_regions.Goals as goal
-
-pub returns : goal.returns
-unfolding pack_free
-returns c = refl
