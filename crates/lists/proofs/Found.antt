@@ -13,18 +13,6 @@ use Rattle.lists.proofs.Cells.{turn, ends}
 
 module _ {A : Type 0} where
   module _ (p : A → Bool) where
-    -- A loop over the first `n` cells: the place in what is left where the cell at hand passes, where it doesn't, and at the end.
-    module _ (n : ℕ) (cells : List A) (i : ℕ) where
-      pub found_here : (d : A) → i < n → n ≤ length cells → p (get_or cells i d) ≡ true → place p (drop i (take n cells)) ≡ 0
-      found_here d h k e = rw (turn n cells i d h k, e)
-
-      pub found_later : (d : A) → i < n → n ≤ length cells → p (get_or cells i d) ≡ false →
-          place p (drop i (take n cells)) ≡ suc (place p (drop (i + 1) (take n cells)))
-      found_later d h k e = rw (turn n cells i d h k, e)
-
-      pub found_nowhere : n ≤ i → place p (drop i (take n cells)) ≡ 0
-      found_nowhere h = rw (ends n cells i h)
-
     -- the first is the one at its place; where none passes, the place is past the list
     pub first-at : (l : List A) (d : A) → place p l < length l → first p l ≡ some (get_or l (place p l) d)
     first-at [] d h = absurd (omega arith)

@@ -18,21 +18,6 @@ use Rattle.lists.proofs.Order.{without-none}
 use Rattle.lists.proofs.Members.{member_above}
 
 module _ {A : Type 0} (key : A → ℕ) where
-  pub without_at : (k b : ℕ) (l : List A) (d : A) → Rises key b l → place (λ x. leb k (key x)) l < length l →
-      key (get_or l (place (λ x. leb k (key x)) l) d) ≡ k → without key k l ≡ remove_at (place (λ x. leb k (key x)) l) l
-  without_at k b [] d r h e = absurd (omega arith)
-  without_at k b (x ∷ l) d r h e = go (leb k (key x)) refl (without_at k (key x) l d r.1) h e
-    where
-      p : ℕ
-      p = place (λ x. leb k (key x)) l
-
-      go : (t : Bool) → leb k (key x) ≡ t → (p < length l → key (get_or l p d) ≡ k → without key k l ≡ remove_at p l) → cond t 0 (suc p) < suc (length l) →
-          key (get_or (x ∷ l) (cond t 0 (suc p)) d) ≡ k → without key k (x ∷ l) ≡ remove_at (cond t 0 (suc p)) (x ∷ l)
-      go true t f h e = rw (eq-eqb (key x) k e) (without-none key k (key x) l (omega arith) r.1)
-      go false t f h e =
-          let below : key x < k = leb-false k (key x) t in
-          rw (ne_eqb (key x) k (λ q. omega arith)) (ap (λ m. x ∷ m) (f (le_of_suc-le-suc h) e))
-
   pub without-past : (k b : ℕ) (l : List A) (d : A) → Rises key b l →
       (place (λ x. leb k (key x)) l < length l → key (get_or l (place (λ x. leb k (key x)) l) d) ≡ k → ⊥) → without key k l ≡ l
   without-past k b [] d r n = refl

@@ -17,8 +17,6 @@ pub mod Found
 pub mod Pushed
 pub mod Keys
 pub mod Moved
-pub mod Compact
 pub mod Front
 pub mod Lowest
-pub mod Copies
 pub mod Merges

@@ -40,21 +40,11 @@ module _ {ℓ} {A : Type ℓ} where
   remove_at_seam [] x m = refl
   remove_at_seam (y ∷ l) x m = ap (λ k. y ∷ k) (remove_at_seam l x m)
 
-  -- what stands before the place, and what stands after it
-  pub take-remove_at : (i : ℕ) (l : List A) → take i (remove_at i l) ≡ take i l
-  take-remove_at zero [] = refl
-  take-remove_at (suc i) [] = refl
-  take-remove_at zero (x ∷ l) = refl
-  take-remove_at (suc i) (x ∷ l) = ap (λ m. x ∷ m) (take-remove_at i l)
-
   drop_remove : (i : ℕ) (l : List A) → drop i (remove_at i l) ≡ drop (suc i) l
   drop_remove zero [] = refl
   drop_remove (suc i) [] = refl
   drop_remove zero (x ∷ l) = refl
   drop_remove (suc i) (x ∷ l) = drop_remove i l
-
-  pub drop-remove_at : (i : ℕ) (l : List A) → drop i (remove_at i l) ≡ drop (i + 1) l
-  drop-remove_at i l = rw add-one (drop_remove i l)
 
   pub get_or-remove_at-before : (l : List A) (i j : ℕ) (d : A) → j < i → get_or (remove_at i l) j d ≡ get_or l j d
   get_or-remove_at-before [] i j d h = refl
@@ -81,16 +71,6 @@ module _ {ℓ} {A : Type ℓ} where
   down (x ∷ []) i d h = absurd (omega arith)
   down (x ∷ y ∷ l) zero d h = refl
   down (x ∷ y ∷ l) (suc i) d h = ap (λ m. x ∷ m) (down (y ∷ l) i d (le_of_suc-le-suc h))
-
-  -- a turn of a loop that shifts: the free place moves down, or up, by one
-  pub shift_up : (l : List A) (i : ℕ) (d : A) → 0 < i → i < length l → remove_at (i - 1) (set l i (get_or l (i - 1) d)) ≡ remove_at i l
-  shift_up l zero d p h = absurd (omega arith)
-  shift_up l (suc j) d p h =
-      let e : suc j - 1 ≡ j = omega arith in
-      rw e (up l j d h)
-
-  pub shift_down : (l : List A) (i : ℕ) (d : A) → i + 1 < length l → remove_at (i + 1) (set l i (get_or l (i + 1) d)) ≡ remove_at i l
-  shift_down l i d h = rw add-one (down l i d (omega arith))
 
   -- a store fills the free place
   pub set-insert_at : (l : List A) (i : ℕ) (a : A) → i < length l → set l i a ≡ insert_at i a (remove_at i l)

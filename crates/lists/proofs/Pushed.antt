@@ -32,15 +32,3 @@ module _ {A : Type 0} where
   packed-next i z l h =
       let e : (i + 1) - length l ≡ (i - length l) + 1 = omega arith in
       rw (append_assoc, e, ← replicate-append-replicate (i - length l) 1 z)
-
-  pub clearing-begins : (n : ℕ) (z : A) (cells : List A) → n ≤ length cells → take n cells ≡ packed n z (take n cells)
-  clearing-begins n z cells h =
-      let e : n - length (take n cells) ≡ 0 = simp length-take (omega arith) in
-      sym (rw (e, append-nil))
-
-  pub clearing-turn : (i : ℕ) (z : A) (l out : List A) → length l ≤ i → i < length out → take i out ≡ packed i z l →
-      take (i + 1) (set out i z) ≡ packed (i + 1) z l
-  clearing-turn i z l out h k e = rw (packed-next i z l h, ← e, add-one, take-suc-set out i z k)
-
-  pub clearing-ends : (n : ℕ) (z : A) (l out : List A) → length out ≡ n → take n out ≡ packed n z l → out ≡ packed n z l
-  clearing-ends n z l out h e = sym (take_all n out (omega arith)) ∙ e

@@ -57,9 +57,6 @@ live_cell = cell_is empty_buffer
 pub live-kept : (l : List LiveBuffer) → length l ≤ SPANS → KeptLive (pack_live l)
 live-kept = kept empty_buffer
 
-pub live-packed-count : (l : List LiveBuffer) → (pack_live l).count ≡ length l
-live-packed-count = packed_count SPANS empty_buffer
-
 pub holes_pack : (l : List Hole) → holes_of (pack_holes l) ≡ l
 holes_pack = entries_pack HOLES empty_hole
 
@@ -125,9 +122,6 @@ roots-count = count_is empty_root
 
 pub roots_kept : (l : List Address) → length l ≤ ROOTS → KeptRoots (pack_roots l)
 roots_kept = kept empty_root
-
-pub roots-packed-count : (l : List Address) → (pack_roots l).count ≡ length l
-roots-packed-count = packed_count ROOTS empty_root
 
 -- a pool's tables are those that were put into it
 pub tables-pool : (state : ℕ) (t : Tables) → tables_of (pool_of state t) ≡ t

@@ -164,6 +164,7 @@ pub type Pages = Table<Page, { Pool::PAGES }>;
 pub type Roots = Table<Address, { Pool::ROOTS }>;
 
 // `state` is 0 closed, 1 open, 2 stopped; `page` is the page size, `va` the size of each root, `counter` the next event id.
+// kept: C hands the pool in as any numbers, so the state is a number, and no table has an invariant: a type that had one would be a copy for each call.
 #[repr(C)]
 #[derive(Clone, Copy)]
 pub struct Pool {
@@ -276,6 +277,7 @@ pub enum Outcome {
 }
 
 // The number of an outcome, and its two values: all that a trace, C and Rust see of it.
+// kept: C and the trace read three numbers.
 #[derive(Clone, Copy)]
 pub struct Numbers {
     pub number: u64,
