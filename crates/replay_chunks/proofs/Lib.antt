@@ -1,4 +1,3 @@
-pub mod Buffers
 pub mod Due
 pub mod Turning
 pub mod Runs

@@ -16,7 +16,7 @@ use trace::{Line, put_short};
 use words::Address;
 
 // The longest line: a word of nine letters, three tabs, three numbers of twenty digits, a line feed.
-const LONGEST_LINE: usize = 73;
+pub const LONGEST_LINE: usize = 73;
 
 // Room for the answers of a call.
 pub fn answers_buffer() -> [u64; 2 * replay_answers::KEPT]

@@ -8,7 +8,7 @@ use lib.ListN.{length, take, drop, drop_of_length-le}
 use Rattle.tables.specs.Values.{closed_pool}
 use Rattle.tables.specs.declared.Pool as tables
 use Rattle.trace.specs.Put.{Put}
-use Rattle.trace.proofs.Put.{put-length, put-none}
+use Rattle.trace.proofs.Put.{put-none}
 use Rattle.replay_answers.specs.Promises.{KEPT, Keeps}
 use Rattle.calls.specs.declared.Pool.{Pool}
 use Rattle.replay_waiting.specs.Places.{first_place, is_ended, todo}
@@ -74,9 +74,6 @@ goes-start input before cells {p} {s} e f g =
 module _ {input before cells out : List ℕ} {p : Pool} {s : Place} {at written : ℕ} (g : Goes input before cells out p s at written) where
   pub goes-keeps : Keeps cells s.count (so_far nothing g.run).answers
   goes-keeps = (so_far nothing g.run).keeps
-
-  pub goes-written : written ≤ length out
-  goes-written = omega (arith, g.puts.fits, g.puts.next, put-length g.puts)
 
   module _ {cells' piece m : List ℕ} {t : Step} {d : Replayed} (w : Turned p s input at cells cells' piece t) (a : Adds (take t.filled piece) written out m d) where
     printed-next : Fits (g.printed ++ printed_by nothing t piece) before m d
