@@ -1,20 +1,16 @@
--- What a search by key found: the handle at an address is that of the page found, and where no two keys are equal, taking out by key is taking out at the
--- place found.
+-- What a search by key found, or that it found nothing: the key of the element found, what is taken out by a key that no element has, and the handle at an
+-- address. The library's tests of a list, and ours.
 use mathlib.Core.Path.{◌≡◌, refl, sym, ap, ◌∙◌}
 use mathlib.Core.Bool.{Bool, true, false, cond, not, ◌&&◌, ◌||◌}
 use mathlib.Core.List.{List, [], ◌∷◌}
 use mathlib.Core.Option.{some, none}
-use Prim.Native.Nat.{ℕ, zero, suc, ◌<◌}
+use Prim.Native.Nat.{ℕ}
 use native.Mathlib.Omega.{arith}
-use borrow.Author.Tests.{eqb-true, eq-eqb, ne_eqb}
+use borrow.Author.Tests.{eqb-true}
 use lib.Dec.{eqb}
-use lib.ListN.{length, get_or}
-use native.Mathlib.Nat.{le_of_suc-le-suc}
 use Rattle.std.specs.List.{list_any, list_all}
 use Rattle.lists.specs.Tests.{any, every, first}
-use Rattle.lists.specs.Places.{remove_at}
-use Rattle.lists.specs.Order.{Rises, without}
-use Rattle.lists.proofs.Order.{without-none}
+use Rattle.lists.specs.Order.{without}
 use Rattle.tables.specs.NewPages.{at}
 use Rattle.tables.specs.Pull.{handle_at}
 use Rattle.tables.specs.declared.Page.{Page}
@@ -47,18 +43,6 @@ module _ {A : Type 0} where
             cond (not b) (y ∷ without key k l) (without key k l) ≡ y ∷ l
         go true f q = let z : ◌≡◌ {A = ℕ} 0 1 = cc in absurd (omega arith)
         go false f q = ap (λ m. y ∷ m) (f q)
-
-    above : (b : ℕ) (l : List A) (i : ℕ) (d : A) → Rises key b l → i < length l → b < key (get_or l i d)
-    above b [] i d r h = absurd (omega arith)
-    above b (x ∷ l) zero d r h = r.0
-    above b (x ∷ l) (suc i) d r h = omega (arith, r.0, above (key x) l i d r.1 (le_of_suc-le-suc h))
-
-    pub without-at : (b : ℕ) (l : List A) (i : ℕ) (d : A) → Rises key b l → i < length l → key (get_or l i d) ≡ k → without key k l ≡ remove_at i l
-    without-at b [] i d r h e = refl
-    without-at b (x ∷ l) zero d r h e = rw (eq-eqb (key x) k e) (without-none key k (key x) l (omega (arith, e)) r.1)
-    without-at b (x ∷ l) (suc i) d r h e =
-        let below : key x ≡ k → ⊥ = λ q. omega (arith, above (key x) l i d r.1 (le_of_suc-le-suc h)) in
-        rw (ne_eqb (key x) k below) (ap (λ m. x ∷ m) (without-at (key x) l i d r.1 (le_of_suc-le-suc h) e))
 
 -- the handle at an address is that of the first page there; where there is none it is 0
 pub handle_found : (a : ℕ) (l : List Page) (g : Page) → first (λ h. eqb (at h) a) l ≡ some g → handle_at a l ≡ g.handle.0

@@ -16,6 +16,7 @@ pub fn cleanup(zombies: &mut Zombies, holes: &mut Holes, driver: &mut Driver) ->
     requires { Cleanable zombies.old holes.old × RoomFor (2 * zombies.old.count) driver.old }
     ensures { CleansUp driver.old zombies.old holes.old result driver.new zombies.new holes.new }
 {
+    // kept: the place moves past a zombie that stays alone, and the table shrinks under the walk, so no range or iterator over it names the next one.
     let mut at = 0;
     while at < zombies.count {
         let zombie = zombies.cells[at];

@@ -63,11 +63,11 @@ module _ {n lack s : ℕ} {d d₁ : Driver} {p q : Pool} (g : Roomable n lack p)
       pub fillable-all : Fillable o None n q
       fillable-all = subst (λ m. Fillable o None m q) size-is sized
 
-      pub filled-all : {r : Result FreeRegion Outcome} {d₂ : Driver} {x : Pool} →
+      pub filled-all : (r : Result FreeRegion Outcome) {d₂ : Driver} {x : Pool} →
           PoolRan (pull_in (room_of o) n (besides None (free_of q.free))) pull_in_calls d₁ q (ending r) d₂ x →
           PoolRan (make_room n s) make_room_calls d p (ending r) d₂ x
       unfolding insert_new fill besides tables_of
-      filled-all v =
+      filled-all r v =
           record {
             lent = lent-then w.lent v.lent;
             ran = w.goes o refl _ _ (next _ (taken _ (eq-eqb o.missing 0 z) gave) (next _ looked (rw (← size-is, w.lent.answers) at v.ran)));
@@ -139,11 +139,11 @@ module _ {n lack s : ℕ} {d d₁ : Driver} {p q : Pool} (g : Roomable n lack p)
             pub fillable-rest : Fillable o (Some r.start) (n - r.size) x
             fillable-rest = subst (λ m. Fillable o (Some r.start) (m - r.size) x) size-is sized-rest
 
-            pub filled-rest : {e : Result FreeRegion Outcome} {d₃ : Driver} {y : Pool} →
+            pub filled-rest : (e : Result FreeRegion Outcome) {d₃ : Driver} {y : Pool} →
                 PoolRan (pull_in (room_of o) (n - r.size) (besides (Some r.start) (free_of x.free))) pull_in_calls d₂ x (ending e) d₃ y →
                 PoolRan (make_room n s) make_room_calls d p (ending e) d₃ y
             unfolding fill besides tables_of
-            filled-rest u =
+            filled-rest e u =
                 let v = i.walked in
                 let not-enough = lt-leb o.size r.size lacking in
                 record {

@@ -55,7 +55,7 @@ module _ {n : ℕ} {p : Pool} (g : Mallocable n p) where
     pub readable : Readable n m p
     readable = record { tables = g.tables; lost = g.lost; kept = g.asked.0; lacks = lacks }
 
-  module _ {m : ℕ} (lack : m ≡ n - free_bytes p) (s : ℕ) {d : Driver} where
+  module _ {m : ℕ} (lack : m ≡ n - free_bytes p) (s : ℕ) (d : Driver) where
     pub refused-stops : {o : Outcome} → Refuses n p (Err o) → RoomsOut n s d p (Err o) d p
     unfolding or_room
     refused-stops w =

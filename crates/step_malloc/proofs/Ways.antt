@@ -63,10 +63,7 @@ module _ {n : ℕ} {p : Pool} (g : Mallocable n p) where
 
   -- the zombies were asked: `z` and `h` are left
   module _ (s : ℕ) {d d₁ : Driver} {z : Zombies} {h : Holes} where
-    abbrev cleaned : Pool
-    cleaned = with-tables p.free z h p
-
-    walked : {r : Result (Unit {0}) Outcome} → CleansUp d p.zombies p.holes r d₁ z h → PoolRan cleanup (2 * ZOMBIES) d p (ending r) d₁ cleaned
+    walked : {r : Result (Unit {0}) Outcome} → CleansUp d p.zombies p.holes r d₁ z h → PoolRan cleanup (2 * ZOMBIES) d p (ending r) d₁ (with-tables p.free z h p)
     unfolding tables_of
     walked w =
         record {
@@ -85,7 +82,7 @@ module _ {n : ℕ} {p : Pool} (g : Mallocable n p) where
           most = omega (arith, w.most, g.tables.zombies.most);
         }
 
-    pub cleanup-stops : {o : Outcome} → CleansUp d p.zombies p.holes (Err o) d₁ z h → PoolRan (malloc_steps n s) malloc_calls d p (ends o) d₁ cleaned
+    pub cleanup-stops : {o : Outcome} → CleansUp d p.zombies p.holes (Err o) d₁ z h → PoolRan (malloc_steps n s) malloc_calls d p (ends o) d₁ (with-tables p.free z h p)
     unfolding malloc_steps
     cleanup-stops w =
         let v = walked w in
@@ -93,7 +90,7 @@ module _ {n : ℕ} {p : Pool} (g : Mallocable n p) where
 
     -- cleanup went on
     module _ (w : CleansUp d p.zombies p.holes (Ok tt) d₁ z h) where
-      cleaned_fitting : Fitting g.lost p.page (free_bytes p) (SPANS - 1) (tables_of cleaned)
+      cleaned_fitting : Fitting g.lost p.page (free_bytes p) (SPANS - 1) (tables_of (with-tables p.free z h p))
       cleaned_fitting = holds-ran (cleans_up g.lost p.page (free_bytes p) (SPANS - 1)) (walked w).ran (fitting g)
 
       pub fittable : Fittable p.free
@@ -102,15 +99,12 @@ module _ {n : ℕ} {p : Pool} (g : Mallocable n p) where
 
       -- a fit was looked for: `f` are left
       module _ {d₂ : Driver} {f : FreeRegions} where
-        abbrev left : Pool
-        left = with-tables f z h p
-
         fit-ran : {r : Result Choice Outcome} → Fits (fit n s) d₁ p.free r d₂ f →
-            Ran (fit n s) d.answers.now (stands d₁ (tables_of cleaned)) (found_in (free_of f) (ending r)) (stands d₂ (tables_of left))
+            Ran (fit n s) d.answers.now (stands d₁ (tables_of (with-tables p.free z h p))) (found_in (free_of f) (ending r)) (stands d₂ (tables_of (with-tables f z h p)))
         unfolding tables_of
-        fit-ran v = rw w.lent.answers at (v.ran (tables_of cleaned))
+        fit-ran v = rw w.lent.answers at (v.ran (tables_of (with-tables p.free z h p)))
 
-        kept-left : {r : Result Choice Outcome} → Fits (fit n s) d₁ p.free r d₂ f → KeptPool left
+        kept-left : {r : Result Choice Outcome} → Fits (fit n s) d₁ p.free r d₂ f → KeptPool (with-tables f z h p)
         kept-left v =
             let t = (walked w).kept in
             record { free = v.free; live = t.live; holes = t.holes; zombies = t.zombies; pages = t.pages; roots = t.roots }
@@ -118,7 +112,7 @@ module _ {n : ℕ} {p : Pool} (g : Mallocable n p) where
         pub fit-made : {r : Result Choice Outcome} → Fits (fit n s) d₁ p.free r d₂ f → d₂.made ≤ d.made + 2 * ZOMBIES + SPANS
         fit-made v = omega (arith, v.most, w.most, g.tables.zombies.most, g.tables.free.most)
 
-        pub fit-stops : {o : Outcome} → Fits (fit n s) d₁ p.free (Err o) d₂ f → PoolRan (malloc_steps n s) malloc_calls d p (ends o) d₂ left
+        pub fit-stops : {o : Outcome} → Fits (fit n s) d₁ p.free (Err o) d₂ f → PoolRan (malloc_steps n s) malloc_calls d p (ends o) d₂ (with-tables f z h p)
         unfolding malloc_steps
         fit-stops v =
             record {
@@ -131,24 +125,24 @@ module _ {n : ℕ} {p : Pool} (g : Mallocable n p) where
 
         -- nothing fits
         module _ (v : Fits (fit n s) d₁ p.free (Ok None) d₂ f) where
-          none_found : Ran (fit n s) d.answers.now (stands d₁ (tables_of cleaned)) (on none) (stands d₂ (tables_of left))
-          none_found = rw (chosen_none empty_region (free_of f) None _ refl refl) (fit-ran v)
+          none_found : Ran (fit n s) d.answers.now (stands d₁ (tables_of (with-tables p.free z h p))) (on none) (stands d₂ (tables_of (with-tables f z h p)))
+          none_found = rw (chosen_none empty_region (free_of f) None _ refl refl) at (fit-ran v)
 
-          pub still-mallocable : Mallocable n left
+          pub still-mallocable : Mallocable n (with-tables f z h p)
           still-mallocable =
               record {
                 tables = kept-left v;
                 ids = g.ids;
                 lost = g.lost;
                 asked =
-                    begins-again g.lost p.page (free_bytes p) n (tables_of left) (size g)
+                    begins-again g.lost p.page (free_bytes p) n (tables_of (with-tables f z h p)) (size g)
                     (holds-ran (fits g.lost p.page (free_bytes p) (SPANS - 1) n s) none_found cleaned_fitting);
               }
 
-          pub roomed_out : {r : Result Outcome Outcome} {d₃ : Driver} {q : Pool} → RoomsOut n s d₂ left r d₃ q →
+          pub roomed_out : (r : Result Outcome Outcome) {d₃ : Driver} {q : Pool} → RoomsOut n s d₂ (with-tables f z h p) r d₃ q →
               PoolRan (malloc_steps n s) malloc_calls d p (ending r) d₃ q
           unfolding malloc_steps
-          roomed_out y =
+          roomed_out r y =
               record {
                 lent = lent-then w.lent (lent-then v.lent y.lent);
                 ran = next _ (walked w).ran (next _ none_found (rw (v.lent.answers, w.lent.answers) at y.ran));
@@ -159,8 +153,8 @@ module _ {n : ℕ} {p : Pool} (g : Mallocable n p) where
 
         -- the region at the place `i` fits
         module _ {i : ℕ} (v : Fits (fit n s) d₁ p.free (Ok (Some i)) d₂ f) where
-          some-found : Ran (fit n s) d.answers.now (stands d₁ (tables_of cleaned)) (on (some (region_at f i))) (stands d₂ (tables_of left))
-          some-found = rw (chosen-some empty_region (free_of f) (Some i) _ refl i refl) (fit-ran v)
+          some-found : Ran (fit n s) d.answers.now (stands d₁ (tables_of (with-tables p.free z h p))) (on (some (region_at f i))) (stands d₂ (tables_of (with-tables f z h p)))
+          some-found = rw (chosen-some empty_region (free_of f) (Some i) _ refl i refl) at (fit-ran v)
 
           placed : i < f.count
           placed = omega (arith, placed_at (free_of f) (Some i) i v.placed refl, free-count f v.free)
@@ -168,15 +162,15 @@ module _ {n : ℕ} {p : Pool} (g : Mallocable n p) where
           pub fit-handable : CanHand n i f p.live
           fit-handable =
               let x =
-              handing-found g.lost p.page (free_bytes p) n s (size g) _ (tables_of left)
+              handing-found g.lost p.page (free_bytes p) n s (size g) _ (tables_of (with-tables f z h p))
               (holds-ran (fits g.lost p.page (free_bytes p) (SPANS - 1) n s) some-found cleaned_fitting) in
-              can-hand n i left placed (record { tables = kept-left v; lost = losing g.lost x.0; due = x.1.1 })
+              can-hand n i (with-tables f z h p) placed (record { tables = kept-left v; lost = losing g.lost x.0; due = x.1.1 })
 
           pub fit-handed : {start : Address} {f' : FreeRegions} {b' : LiveBuffers} → HandsOver n s i f p.live start f' b' →
-              PoolRan (malloc_steps n s) malloc_calls d p (on (Allocated start n)) d₂ (after left f' b')
+              PoolRan (malloc_steps n s) malloc_calls d p (on (Allocated start n)) d₂ (after (with-tables f z h p) f' b')
           unfolding malloc_steps or_room
           fit-handed y =
-              let q = (handed_out n s i left (kept-left v) y).walked d₂ in
+              let q = (handed_out n s i (with-tables f z h p) (kept-left v) y).walked d₂ in
               record {
                 lent = lent-then w.lent v.lent;
                 ran = next _ (walked w).ran (next _ some-found (next _ gave (rw (v.lent.answers, w.lent.answers) at q.ran)));

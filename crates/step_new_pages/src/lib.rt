@@ -48,6 +48,7 @@ fn roll_back(
     requires { Returnable pages.old holes.old room upto driver.old }
     ensures { RollsBack page room upto driver.old pages.old holes.old result driver.new pages.new holes.new }
 {
+    // a copy is walked: each page unmade leaves the table
     let all = *pages;
     for g in all.entries() {
         if is_new(room, upto, *g) {

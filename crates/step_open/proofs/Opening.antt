@@ -36,6 +36,22 @@ use Rattle.step_make_room.specs.Promises.{make_room_calls}
 use Rattle.step_open.specs.Promises.{open_calls}
 use Rattle.step_open.proofs.Ways.{root-stops, root-opens, room-stops, sync-stops, pages-open}
 
+-- the pool with its root, where one was reserved
+abbrev with_root : Holes → Roots → Pool → Pool
+with_root h r p =
+    record {
+      state = p.state;
+      page = p.page;
+      va = p.va;
+      counter = p.counter;
+      free = p.free;
+      live = p.live;
+      holes = h;
+      zombies = p.zombies;
+      pages = p.pages;
+      roots = r;
+    }
+
 -- `p` is an open pool with no tables
 module _ {page va initial : ℕ} {p : Pool} (c : Configured page va initial) (bare : p ≡ pool_of opened (no_tables page va)) where
   tables_are : tables_of p ≡ no_tables page va
@@ -87,38 +103,22 @@ module _ {page va initial : ℕ} {p : Pool} (c : Configured page va initial) (ba
   pub root-fits : p.roots.count < ROOTS
   root-fits = omega (arith, no-roots)
 
+  with-root-kept : {h : Holes} {r : Roots} → KeptHoles h → KeptRoots r → KeptPool (with_root h r p)
+  with-root-kept holes roots =
+      record {
+        free = kept.free;
+        live = kept.live;
+        holes = holes;
+        zombies = kept.zombies;
+        pages = kept.pages;
+        roots = roots;
+      }
+
   -- the root was asked for: `h` and `r` are the holes and the roots then, and the driver stands at `d₁`
   module _ {d d₁ : Driver} {h : Holes} {r : Roots} (stream : ℕ) where
-    -- the pool with its root, where one was reserved
-    abbrev with_root_lem : Pool
-    with_root_lem =
-        record {
-          state = p.state;
-          page = p.page;
-          va = p.va;
-          counter = p.counter;
-          free = p.free;
-          live = p.live;
-          holes = h;
-          zombies = p.zombies;
-          pages = p.pages;
-          roots = r;
-        }
-
-    with-root-kept : KeptHoles h → KeptRoots r → KeptPool with_root_lem
-    with-root-kept holes roots =
-        record {
-          free = kept.free;
-          live = kept.live;
-          holes = holes;
-          zombies = kept.zombies;
-          pages = kept.pages;
-          roots = roots;
-        }
-
     -- there is no root
     pub root-stopped : {o : Outcome} → Takes (reserve_root 0) page va d p.holes p.roots (Err o) d₁ h r →
-        PoolRan (open_steps initial stream) open_calls d p (ends o) d₁ with_root_lem
+        PoolRan (open_steps initial stream) open_calls d p (ends o) d₁ (with_root h r p)
     unfolding tables_of
     root-stopped w =
         record {
@@ -130,16 +130,16 @@ module _ {page va initial : ℕ} {p : Pool} (c : Configured page va initial) (ba
         }
 
     module _ {b : Address} (w : Takes (reserve_root 0) page va d p.holes p.roots (Ok b) d₁ h r) where
-      on-ran : Ran (reserve_root 0) d.answers.now (stands d (tables_of p)) (on b.0) (stands d₁ (tables_of with_root_lem))
+      on-ran : Ran (reserve_root 0) d.answers.now (stands d (tables_of p)) (on b.0) (stands d₁ (tables_of (with_root h r p)))
       unfolding tables_of
       on-ran = w.ran (tables_of p) page-is va-is
 
-      same-page : (tables_of with_root_lem).fields.page ≡ page
+      same-page : (tables_of (with_root h r p)).fields.page ≡ page
       unfolding tables_of
       same-page = page-is
 
       -- the root is all that was asked for
-      pub root_opened : initial ≡ 0 → PoolRan (open_steps initial stream) open_calls d p (on (Opened b page)) d₁ with_root_lem
+      pub root_opened : initial ≡ 0 → PoolRan (open_steps initial stream) open_calls d p (on (Opened b page)) d₁ (with_root h r p)
       root_opened e =
           record {
             lent = w.lent;
@@ -151,32 +151,32 @@ module _ {page va initial : ℕ} {p : Pool} (c : Configured page va initial) (ba
 
       -- initial pages are asked for
       module _ (some : 0 < initial) where
-        reserved : Reserved none 0 (no_tables page va) b.0 (tables_of with_root_lem)
+        reserved : Reserved none 0 (no_tables page va) b.0 (tables_of (with_root h r p))
         reserved =
             holds-ran (reserves-root none 0 (no_tables page va) (empty-kept page va initial c) (omega arith) (inl refl)) on-ran tables_are
 
         can-take : (x y : ℕ) (t : Tables) → x ≡ page → y ≡ 0 → t ≡ rooted 0 b.0 (no_tables page va) →
             TakesFrom none x y ((initial * page - y) / x) (initial * page) t
-        can-take x y t a f e = rw (a, f, e) (takes-from page va initial c some b.0 (tables_of with_root_lem) reserved)
+        can-take x y t a f e = rw (a, f, e) (takes-from page va initial c some b.0 (tables_of (with_root h r p)) reserved)
 
-        all-missing : initial * page ≡ missing (initial * page) (tables_of with_root_lem)
+        all-missing : initial * page ≡ missing (initial * page) (tables_of (with_root h r p))
         unfolding tables_of
         all-missing = omega (arith, nothing-free)
 
         -- What `make_room` needs.
-        pub roomable : Roomable (initial * page) (initial * page) with_root_lem
+        pub roomable : Roomable (initial * page) (initial * page) (with_root h r p)
         roomable =
             record {
               kept = with-root-kept w.holes w.roots;
               ids = omega (arith, first_id);
               lost = none;
-              takes = can-take p.page (free_bytes p) (tables_of with_root_lem) page-is nothing-free reserved.tables;
+              takes = can-take p.page (free_bytes p) (tables_of (with_root h r p)) page-is nothing-free reserved.tables;
               lacks = all-missing;
             }
 
         -- the pages were asked for
         module _ {d₂ : Driver} {q : Pool} where
-          pub room-stopped : {o : Outcome} → PoolRan (make_room (initial * page) stream) make_room_calls d₁ with_root_lem (ends o) d₂ q →
+          pub room-stopped : {o : Outcome} → PoolRan (make_room (initial * page) stream) make_room_calls d₁ (with_root h r p) (ends o) d₂ q →
               PoolRan (open_steps initial stream) open_calls d p (ends o) d₂ q
           room-stopped v =
               record {
@@ -188,7 +188,7 @@ module _ {page va initial : ℕ} {p : Pool} (c : Configured page va initial) (ba
               }
 
           -- they were made, and the sync asked for
-          module _ {a : FreeRegion} (v : PoolRan (make_room (initial * page) stream) make_room_calls d₁ with_root_lem (on a) d₂ q) {d₃ : Driver} where
+          module _ {a : FreeRegion} (v : PoolRan (make_room (initial * page) stream) make_room_calls d₁ (with_root h r p) (on a) d₂ q) {d₃ : Driver} where
             pub sync-stopped : {o : Outcome} → Drove (must (sync stream)) d₂ (ends o) d₃ → PoolRan (open_steps initial stream) open_calls d p (ends o) d₃ q
             sync-stopped y =
                 record {

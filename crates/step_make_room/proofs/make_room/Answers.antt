@@ -17,7 +17,7 @@ pull_in-requires c =
     (fillable-all c.requires.0 w c.if-room-eq0.true, omega (arith, c.requires.1, w.most, w.lent.cells))
 
 pub returns-then-room-eq0 : goal.returns-then-room-eq0
-returns-then-room-eq0 c = filled-all c.requires.0 c.in_ok-room.ensures c.if-room-eq0.true c.pull_in.ensures
+returns-then-room-eq0 c = filled-all c.requires.0 c.in_ok-room.ensures c.if-room-eq0.true _ c.pull_in.ensures
 
 pub insert_new-requires : goal.insert_new-requires
 insert_new-requires c =
@@ -44,4 +44,4 @@ pull_in-requires-2 c =
 pub returns : goal.returns
 returns c =
     let short : c.in_ok-region.region.size < c.args.requested = omega (arith, c.if-requested-region.false) in
-    filled-rest c.requires.0 c.in_ok-room.ensures (omega (arith, c.if-room-eq0.false)) c.in_ok-region.ensures short c.pull_in-2.ensures
+    filled-rest c.requires.0 c.in_ok-room.ensures (omega (arith, c.if-room-eq0.false)) c.in_ok-region.ensures short _ c.pull_in-2.ensures

@@ -21,25 +21,25 @@ pub returns-in_err-room_refused : goal.returns-in_err-room_refused
 returns-in_err-room_refused c =
     let p = err_from_is_err_and c.from_residual.result c.from_residual.ensures.1 in
     let l = lack (goal.at.returns-in_err-room_refused c).After-missing_of-missing in
-    rw (p.1, p.2) (refused-stops c.requires.0 l c.args.stream c.in_err-room_refused.ensures)
+    rw (p.1, p.2) (refused-stops c.requires.0 l c.args.stream c.args.driver.now c.in_err-room_refused.ensures)
 
 pub make_room-requires : goal.make_room-requires
 make_room-requires c =
     let l = lack (goal.at.make_room-requires c).After-missing_of-missing in
-    (roomable c.requires.0 l c.args.stream {d = c.args.driver.now} c.in_ok-room_refused.ensures, c.requires.1)
+    (roomable c.requires.0 l c.args.stream c.args.driver.now c.in_ok-room_refused.ensures, c.requires.1)
 
 pub returns-in_err-region : goal.returns-in_err-region
 returns-in_err-region c =
     let p = err_from_is_err_and c.from_residual-in_err-region.result c.from_residual-in_err-region.ensures.1 in
     let l = lack (goal.at.returns-in_err-region c).After-missing_of-missing in
-    rw (p.1, p.2) (room-stops c.requires.0 l c.args.stream c.in_ok-room_refused.ensures c.in_err-region.ensures)
+    rw (p.1, p.2) (room-stops c.requires.0 l c.args.stream c.args.driver.now c.in_ok-room_refused.ensures c.in_err-region.ensures)
 
 pub hand_out-requires : goal.hand_out-requires
 hand_out-requires c =
     let l = lack (goal.at.hand_out-requires c).After-missing_of-missing in
-    room-handable c.requires.0 l c.args.stream c.in_ok-room_refused.ensures c.in_ok-region.ensures
+    room-handable c.requires.0 l c.args.stream c.args.driver.now c.in_ok-room_refused.ensures c.in_ok-region.ensures
 
 pub returns : goal.returns
 returns c =
     let l = lack (goal.at.returns c).After-missing_of-missing in
-    room-handed c.requires.0 l c.args.stream c.in_ok-room_refused.ensures c.in_ok-region.ensures c.hand_out.ensures
+    room-handed c.requires.0 l c.args.stream c.args.driver.now c.in_ok-room_refused.ensures c.in_ok-region.ensures c.hand_out.ensures

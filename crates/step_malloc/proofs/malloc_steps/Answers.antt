@@ -31,7 +31,7 @@ malloc_room-requires c =
       omega (arith, c.requires.1, fit-made c.requires.0 c.args.stream w v, w.lent.cells, v.lent.cells))
 
 pub returns-in_default : goal.returns-in_default
-returns-in_default c = roomed_out c.requires.0 c.args.stream c.in_ok-cleanup.ensures (rw c.in_default.is at c.in_ok-at.ensures) c.malloc_room.ensures
+returns-in_default c = roomed_out c.requires.0 c.args.stream c.in_ok-cleanup.ensures (rw c.in_default.is at c.in_ok-at.ensures) _ c.malloc_room.ensures
 
 pub hand_over-start-requires : goal.hand_over-start-requires
 hand_over-start-requires c = fit-handable c.requires.0 c.args.stream c.in_ok-cleanup.ensures (rw c.in-Some.is at c.in_ok-at.ensures)

@@ -1,5 +1,5 @@
 -- `step_pull_in::pull_in` meets its contract: its calls are the steps of the rule in order, and each leaves what the next leans on.
-use mathlib.Core.Path.{◌≡◌}
+use mathlib.Core.Path.{◌≡◌, ap}
 use Prim.Native.Nat.{◌-◌}
 use native.Mathlib.Omega.{arith}
 use lib.ListN.{length, take, drop}
@@ -38,10 +38,10 @@ returns-in_err-pull c =
     rw (p.1, p.2) (pull-stops c.requires.0 c.in_err-pull.ensures)
 
 pub slice_bounds-pulled-count : goal.slice_bounds-pulled-count
-slice_bounds-pulled-count c = rw c.entries.ensures (zombies-stay c.requires.0 c.in_ok-pull.ensures)
+slice_bounds-pulled-count c = omega (arith, ap length c.entries.ensures, zombies-stay c.requires.0 c.in_ok-pull.ensures)
 
 pub slice_bounds-pulled-start : goal.slice_bounds-pulled-start
-slice_bounds-pulled-start c = rw c.entries.ensures (zombies-stay c.requires.0 c.in_ok-pull.ensures)
+slice_bounds-pulled-start c = omega (arith, ap length c.entries.ensures, zombies-stay c.requires.0 c.in_ok-pull.ensures)
 
 -- the zombies that were just pulled, as the code takes them
 its : (c : After-entries) →
