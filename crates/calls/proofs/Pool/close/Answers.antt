@@ -15,7 +15,7 @@ returns-in-Err c = replies-none _ c.args.self _ (c.in-Err.ensures.stops _ refl _
 
 pub close_steps-requires : goal.close_steps-requires
 close_steps-requires c =
-    let m = c.in_default-enter_close.ensures in
+    let m = c.in_default.ensures in
     let g = m.goes refl in
     let k = read_kept _ _ _ (m.read refl) g.0 in
     let b = begins (goal.at.close_steps-requires c).After-new-driver in
@@ -23,12 +23,12 @@ close_steps-requires c =
 
 pub returns-in-Ok : goal.returns-in-Ok
 returns-in-Ok c =
-    let m = c.in_default-enter_close.ensures in
-    closes_done c.args.self _ (read-tables _ _ _ (m.read refl)) (begins (goal.at.returns-in-Ok c).After-new-driver) (m.passes refl _)
+    let m = c.in_default.ensures in
+    closes_done (read-tables _ _ _ (m.read refl)) (begins (goal.at.returns-in-Ok c).After-new-driver) c.args.self (m.passes refl _)
     c.in-Ok.ensures c.leave_closed.ensures
 
 pub returns-in-Err-close_steps : goal.returns-in-Err-close_steps
 returns-in-Err-close_steps c =
-    let m = c.in_default-enter_close.ensures in
-    closes-short c.args.self _ (read-tables _ _ _ (m.read refl)) (begins (goal.at.returns-in-Err-close_steps c).After-new-driver) (m.passes refl _)
+    let m = c.in_default.ensures in
+    closes-short (read-tables _ _ _ (m.read refl)) (begins (goal.at.returns-in-Err-close_steps c).After-new-driver) c.args.self (m.passes refl _)
     c.in-Err-close_steps.ensures c.leave_short.ensures

@@ -10,11 +10,11 @@ use Rattle.calls.specs.Refusing.{open_refused}
 use Rattle.calls.proofs.Left.{Begins, replies-none, long}
 use Rattle.calls.proofs.Opening.{open-refused, open-goes, open-room, open-configured, replies-opened}
 use Rattle.calls.proofs.Pool.open.Goals as goal
-use Rattle.calls.proofs.Pool.open.Goals.{In_default-open_refused, After-new-driver}
+use Rattle.calls.proofs.Pool.open.Goals.{In_default, After-new-driver}
 
-passes : (c : In_default-open_refused) →
+passes : (c : In_default) →
     open_refused c.args.granularity c.args.override_size c.args.va_size c.args.initial_pages (length c.args.log.now / 4) ≡ Ok tt
-passes c = sym c.open_refused.ensures ∙ c.in_default-open_refused.is
+passes c = sym c.open_refused.ensures ∙ c.in_default.is
 
 begins : (c : After-new-driver) → Begins c.new-driver.result c.args.answers.now c.args.log.now
 begins c = record { answers = ap (λ a. a.now) c.new-driver.ensures.lent.0; log = c.new-driver.ensures.start.0; made = c.new-driver.ensures.start.1 }
@@ -31,7 +31,7 @@ pub open_steps-requires : goal.open_steps-requires
 open_steps-requires c =
     let g = goal.at.open_steps-requires c in
     let a = c.args in
-    let e = passes g.In_default-open_refused in
+    let e = passes g.In_default in
     let u = c.page_size-page.ensures in
     let room = length a.log.now / 4 in (
       open-configured a.granularity a.override_size a.va_size a.initial_pages a.initial_stream a.answers.now room e _ u,
@@ -47,6 +47,6 @@ returns c =
     let g = goal.at.returns c in
     let a = c.args in
     let t = no_tables c.page_size-page.result a.va_size in
-    replies-opened t (tables-pool opened t) (begins g.After-new-driver) c.open_steps.ensures
-    (open-goes a.granularity a.override_size a.va_size a.initial_pages a.initial_stream _ _ (passes g.In_default-open_refused) _ c.page_size-page.ensures)
+    replies-opened t (tables-pool opened t) (begins g.After-new-driver) c.open_steps-ended.ensures
+    (open-goes a.granularity a.override_size a.va_size a.initial_pages a.initial_stream _ _ (passes g.In_default) _ c.page_size-page.ensures)
     c.leave_opened.ensures
