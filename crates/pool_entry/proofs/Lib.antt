@@ -1,4 +1,2 @@
 pub mod Reading
 pub mod Entering
-pub mod ZeroCells
-pub mod Exact
