@@ -22,7 +22,7 @@ use Rattle.calls.specs.declared.Pool.{Pool}
 use Rattle.calls.specs.declared.Called.{Called}
 use Rattle.calls.proofs.Left.{Begins}
 
-module _ {xs l : List ℕ} {q : tables.Pool} {d d' : Driver} {g : ℕ} {t : Tables} (same : tables_of q ≡ t) (b : Begins d xs l) where
+module _ {xs l : List ℕ} (q : tables.Pool) {d : Driver} (d' : Driver) {g : ℕ} {t : Tables} (same : tables_of q ≡ t) (b : Begins d xs l) where
   module _ {e : Ending (Unit {0})} (r : RanCounting close_steps d.answers.now (stands d (tables_of q)) 0 e (stands d' (tables_of q)) g) where
     counting : RanCounting close_steps xs (point 0 t l) 0 e (point d'.made t d'.log.now) g
     counting = rw (b.answers, b.made, b.log, same) at r

@@ -22,7 +22,8 @@ use Rattle.keeping.proofs.Inside.{in_common}
 use Rattle.keeping.proofs.Ranges.{each_of}
 use Rattle.keeping.proofs.WellFormedTests.{Clauses, clauses_hold}
 use Rattle.keeping.proofs.WellFormedEnters.{ceilings-read, entry-page}
-use Rattle.manager_rules.specs.Values.{SMALLS, BYTES, small_of, small}
+use Rattle.cells.specs.Table.{entries}
+use Rattle.manager_rules.specs.Values.{SMALLS, BYTES, small}
 use Rattle.manager_rules.specs.Sizes.{unfit, smaller, whole, rounded, request}
 use Rattle.manager_rules.specs.WellFormed.{pointers_nonzero, pointers_distinct, sizes_small, small_bytes, live_bytes, current_held, own_sound, own_kept}
 use Rattle.manager_rules.specs.declared.Manager as Rules
@@ -96,7 +97,7 @@ module _ (m : Rules.Manager) (log : ℕ) (a : Admitted m log) where
       (d.0, (both (current_held m) (leb m.current m.highest) d.1).0)
 
   length-small : length (small m) ≤ SMALLS
-  unfolding small_of
+  unfolding entries
   length-small = omega (arith, length-take m.small.count m.small.cells, smalls-few)
 
   small-most : small_bytes m ≤ SMALLS * VA

@@ -27,27 +27,25 @@ use Rattle.tables.specs.Close as Pools
 use Rattle.tables.specs.Close.{close_steps, close_finished}
 use Rattle.tables.specs.Calls.{closes, answer}
 use Rattle.tables.specs.declared.Pool as Tables
+use Rattle.tables.specs.declared.Outcome.{Outcome}
 use Rattle.tables.specs.declared.Outcome.TheVariants.{PoolClosed, NotWellFormed, ShortLog, AnswersRanOut}
-use Rattle.driving.specs.declared.Ended.TheVariants.{On, Ends}
-use Rattle.driving.proofs.Endings.{not_on}
+use Rattle.std.specs.Prelude.{Ok, Err}
 use Rattle.answering.proofs.Calls.{either_way}
 use Rattle.answering.proofs.Few.{close-few}
 use Rattle.calls.specs.Promises as Calls
 use Rattle.calls.specs.declared.Called.{Called}
-use Rattle.manager_rules.specs.Values.{SMALLS, small_of, small}
+use Rattle.cells.specs.Table.{entries}
+use Rattle.manager_rules.specs.Values.{SMALLS, small}
 use Rattle.manager_rules.specs.WellFormed.{own_kept}
 use Rattle.manager_rules.specs.HandsBack.{Reply, refused}
 use Rattle.manager_rules.specs.Close.{drops, close_served, close}
 use Rattle.manager_rules.specs.declared.Manager as Rules
-use Rattle.manager_rules.specs.declared.SmallBuffers.{SmallBuffers}
 use Rattle.manager_parts.proofs.Combined.{written_over}
 use Rattle.manager_parts.proofs.Drops.{length-drops, length-drops-short}
-use Rattle.manager.specs.Promises.{Closes, managed}
 use Rattle.manager.specs.Entry.{close_refused}
-use Rattle.manager.specs.Behind.{PoolCloses, DropsBefore, closed_with}
-use Rattle.manager.specs.declared.Manager.{Manager}
+use Rattle.manager.specs.Behind.{Closed, PoolCloses, DropsBefore, closed_with}
 use Rattle.manager.specs.declared.Managed.{Managed}
-use Rattle.manager.proofs.Served.{replies-none}
+use Rattle.manager.proofs.Refusals.{not_on, hands-refused}
 
 -- a part that begins behind the end is the part that begins there
 drop_min : {A : Type 0} (n : ℕ) (l : List A) → drop (min n (length l)) l ≡ drop n l
@@ -62,11 +60,6 @@ part-behind n from l e = take_all (length l - from) (drop from l) (omega (arith,
 pub pool-closes : (p : Tables.Pool) (n from : ℕ) (xs log : List ℕ) (c : Called) (log' : List ℕ) → from ≡ min (2 * n) (length xs) →
     Calls.Replies (answer p closes (take (length xs - from) (drop from xs)) (length log / 4)) c log log' → PoolCloses p n xs log c log'
 pool-closes p n from xs log c log' e r = rw (part-behind (2 * n) from xs e) at r
-
--- as many small buffers as the table's count says
-pub length-small : (t : SmallBuffers) → t.count ≤ SMALLS → length t.cells ≡ SMALLS → length (small_of t) ≡ t.count
-unfolding small_of
-length-small t h w = length-take-le t.count t.cells (omega (arith, h, w))
 
 -- a step's records are left by what goes on from it
 then-more : {A B : Type 0} (m : Step A) (f : A → Step B) (xs : List ℕ) (k : ℕ) (t : Tables) → length (m xs k t).records ≤ length ((m >>= f) xs k t).records
@@ -163,14 +156,14 @@ module _ (m : Rules.Manager) where
     some : (length w.records ≡ 0 → ⊥) → (s ≡ r) × (room ≡ false)
 
   tells : (r : Reply) (w : Pool.Reply) → 1 ≤ length w.records → (a f k d : Bool) →
-      cond a (Ends PoolClosed) (cond k On (Ends NotWellFormed)) ≡ On → Tells r (pools w a f d) (layers r a f k d) d
+      cond a (Err PoolClosed) (cond k (Ok (tt {0})) (Err NotWellFormed)) ≡ Ok (tt {0}) → Tells r (pools w a f d) (layers r a f k d) d
   tells r w h true f k d o = not_on o
   tells r w h false f false d o = not_on o
   tells r w h false false true d o = record { none = λ _. refl; some = λ n. absurd (n refl) }
   tells r w h false true true true o = record { none = λ _. refl; some = λ n. absurd (n refl) }
   tells r w h false true true false o = record { none = λ e. absurd (omega (arith, h, e)); some = λ _. (refl, refl) }
 
-  close-tells : close_refused m ≡ On → (xs : List ℕ) (log : ℕ) →
+  close-tells : close_refused m ≡ Ok (tt {0}) → (xs : List ℕ) (log : ℕ) →
       Tells (close_served m xs log) (answer m.pool closes (drop (2 * length (small m)) xs) log) (close m xs log) (Pool.short_log log)
   unfolding close Pools.close
   close-tells h xs log =
@@ -180,76 +173,79 @@ module _ (m : Rules.Manager) where
       (omega (arith, ap length (finished-records m.pool w.records w.ending), close_steps-some rest 0 (at_entry m.pool)))
       (eqb m.pool.state closed) (well_formed m.pool) (own_kept m) (Pool.short_log log) h
 
-  own-kept : (a k : Bool) → cond a (Ends PoolClosed) (cond k On (Ends NotWellFormed)) ≡ On → k ≡ true
+  own-kept : (a k : Bool) → cond a (Err PoolClosed) (cond k (Ok (tt {0})) (Err NotWellFormed)) ≡ Ok (tt {0}) → k ≡ true
   own-kept true k h = not_on h
   own-kept false true h = refl
   own-kept false false h = not_on h
 
-  pub close_smalls : close_refused m ≡ On → m.small.count ≤ SMALLS
+  pub close_smalls : close_refused m ≡ Ok (tt {0}) → m.small.count ≤ SMALLS
   unfolding own_kept
   close_smalls h = leb-true m.small.count SMALLS (both (leb m.small.count SMALLS) _ (own-kept (eqb m.pool.state closed) (own_kept m) h)).0
 
 -- Behind the pool's close, whose reply is `c`.
-module _ (m : Manager) (h : close_refused m.value ≡ On) (xs log : List ℕ) (c : Called) (log₁ : List ℕ)
-    (r : PoolCloses m.value.pool (length (small m.value)) xs log c log₁) where
+module _ (m : Rules.Manager) (h : close_refused m ≡ Ok (tt {0})) (xs log : List ℕ) (c : Called) (log₁ : List ℕ)
+    (r : PoolCloses m.pool (length (small m)) xs log c log₁) where
   abbrev l : ℕ
-  l = length (small m.value)
+  l = length (small m)
 
   abbrev w : Pool.Reply
-  w = answer m.value.pool closes (drop (2 * l) xs) (length log / 4)
+  w = answer m.pool closes (drop (2 * l) xs) (length log / 4)
 
   records_are : c.records ≡ length w.records
   records_are = ap (λ (x : Called). x.records) r.answer
 
   -- it wrote few records, and the log has room for those of the small buffers beside them
   pub few-records : c.records ≤ ZOMBIES + 2 * PAGES + ROOTS + 1
-  few-records = omega (arith, records_are, close-few m.value.pool (drop (2 * l) xs) (length log / 4))
+  few-records = omega (arith, records_are, close-few m.pool (drop (2 * l) xs) (length log / 4))
 
   pub few-taken : c.taken ≤ c.records
-  few-taken = omega (arith, records_are, ap (λ (x : Called). x.taken) r.answer, close-taken m.value.pool (drop (2 * l) xs) (length log / 4))
+  few-taken = omega (arith, records_are, ap (λ (x : Called). x.taken) r.answer, close-taken m.pool (drop (2 * l) xs) (length log / 4))
 
-  served : (c.records ≡ 0 → ⊥) → (close m.value xs (length log / 4) ≡ close_served m.value xs (length log / 4)) × (Pool.short_log (length log / 4) ≡ false)
-  served n = (close-tells m.value h xs (length log / 4)).some (λ e. n (records_are ∙ e))
+  served : (c.records ≡ 0 → ⊥) → (close m xs (length log / 4) ≡ close_served m xs (length log / 4)) × (Pool.short_log (length log / 4) ≡ false)
+  served n = (close-tells m h xs (length log / 4)).some (λ e. n (records_are ∙ e))
 
   pub has_room : (c.records ≡ 0 → ⊥) → LOG ≤ length log / 4
   has_room n = ltb-false (length log / 4) LOG (served n).1
 
-  pub closes-refused : c.records ≡ 0 → (q : Managed) → q ≡ managed (refused m.value c.outcome) → Closes m xs log q log₁
-  closes-refused e q s =
+  pub closes-refused : c.records ≡ 0 → Closed m xs log m (Err c.outcome) log₁
+  closes-refused e =
       let z : length w.records ≡ 0 = sym records_are ∙ e in
       let o : c.outcome ≡ w.outcome = ap (λ (x : Called). x.outcome) r.answer in
-      replies-none _ m _ ((close-tells m.value h xs (length log / 4)).none z) (s ∙ ap (λ x. managed (refused m.value x)) o)
-      (r.cells ∙ no-records w.records z)
+      hands-refused m c.outcome ((close-tells m h xs (length log / 4)).none z ∙ ap (refused m) (sym o)) (r.cells ∙ no-records w.records z)
     where
       no-records : (rs : List Record) → length rs ≡ 0 → written log 0 rs ≡ log
       no-records [] e = written_none log 0
       no-records (x ∷ rs) e = absurd (omega arith)
 
-  pub closes-short : (c.records ≡ 0 → ⊥) → length xs / 2 < l → (log₂ : List ℕ) → log₂ ≡ written log₁ 0 (drops xs 0 (small m.value)) →
-      (q : Managed) → q ≡ record { manager = m; outcome = AnswersRanOut; records = length (drops xs 0 (small m.value)); taken = length xs / 2 } →
-      Closes m xs log q log₂
+  pub closes-short : (c.records ≡ 0 → ⊥) → length xs / 2 < l → (log₂ : List ℕ) → log₂ ≡ written log₁ 0 (drops xs 0 (small m)) →
+      (n : ℕ) → n ≡ length (drops xs 0 (small m)) → Closed m xs log m (Ok (record { outcome = AnswersRanOut; records = n; taken = length xs / 2 })) log₂
   unfolding close_served
-  closes-short n k log₂ e q s =
-      let ds = drops xs 0 (small m.value) in
-      let many = length-drops-short xs (small m.value) k in
+  closes-short some k log₂ e n s =
+      let ds = drops xs 0 (small m) in
+      let many = length-drops-short xs (small m) k in
       let t : length xs / 2 ≡ length ds - 1 = omega (arith, many) in
       let none : drop (2 * l) xs ≡ [] = drop_of_length-le xs {i = 2 * l} (omega (arith, k)) in
-      let few : length w.records ≤ 1 = rw (← none) at (close-none m.value.pool (length log / 4)) in
-      rw ((served n).0, lt-ltb (length xs / 2) l k)
+      let few : length w.records ≤ 1 = rw (← none) at (close-none m.pool (length log / 4)) in
+      rw ((served some).0, lt-ltb (length xs / 2) l k)
       record {
-        answer = s ∙ ap (λ i. record { manager = m; outcome = AnswersRanOut; records = length ds; taken = i }) t;
+        answer = λ i. record { manager = record { value = m }; outcome = AnswersRanOut; records = s i; taken = t i };
         cells = e ∙ ap (λ z. written z 0 ds) r.cells ∙ written_over log w.records ds (omega (arith, few, many));
       }
 
-  pub closes-served : (c.records ≡ 0 → ⊥) → l ≤ length xs / 2 → (log₂ : List ℕ) → DropsBefore m.value.small xs c.records log₁ log₂ →
-      (q : Managed) → q ≡ closed_with m c.outcome (l + c.records) (l + c.taken) → Closes m xs log q log₂
+  pub closes-served : (c.records ≡ 0 → ⊥) → l ≤ length xs / 2 → (log₂ : List ℕ) → DropsBefore (small m) xs c.records log₁ log₂ →
+      (q : Rules.Manager) → q ≡ closed_with m c.outcome →
+      Closed m xs log q (Ok (record { outcome = c.outcome; records = l + c.records; taken = l + c.taken })) log₂
   unfolding close_served
-  closes-served n k log₂ e q s =
-      let ds = drops xs 0 (small m.value) in
-      let many : l + length w.records ≡ length (ds ++ w.records) = simp length-append (omega (arith, length-drops xs (small m.value) k)) in
-      rw ((served n).0, le-ltb (length xs / 2) l k)
+  closes-served some k log₂ e q s =
+      let ds = drops xs 0 (small m) in
+      let many : l + length w.records ≡ length (ds ++ w.records) = simp length-append (omega (arith, length-drops xs (small m) k)) in
+      rw ((served some).0, le-ltb (length xs / 2) l k)
       record {
-        answer = s ∙ ap (λ (x : Called). closed_with m x.outcome (l + x.records) (l + x.taken)) r.answer
-            ∙ ap (λ i. closed_with m w.outcome i (l + w.taken)) many;
+        answer = ap (λ z. served_as z c.outcome (l + c.records) (l + c.taken)) s
+            ∙ ap (λ (x : Called). served_as (closed_with m x.outcome) x.outcome (l + x.records) (l + x.taken)) r.answer
+            ∙ ap (λ i. served_as (closed_with m w.outcome) w.outcome i (l + w.taken)) many;
         cells = e.stand log w.records r.cells (sym records_are);
       }
+    where
+      served_as : Rules.Manager → Outcome → ℕ → ℕ → Managed
+      served_as q o n t = record { manager = record { value = q }; outcome = o; records = n; taken = t }

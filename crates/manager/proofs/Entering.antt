@@ -11,26 +11,25 @@ use Rattle.tables.specs.WellFormed.{well_formed}
 use Rattle.tables.specs.HandsBack as Pool
 use Rattle.tables.specs.declared.Outcome.{Outcome}
 use Rattle.tables.specs.declared.Outcome.TheVariants.{PoolClosed, PoolStopped, NotWellFormed, ShortLog, IdsSpent}
-use Rattle.driving.specs.declared.Ended.{Ended}
-use Rattle.driving.specs.declared.Ended.TheVariants.{On, Ends}
-use Rattle.driving.proofs.Endings.{not_on, ends-once}
+use Rattle.std.specs.Prelude.{Result, Ok, Err}
 use Rattle.manager_rules.specs.WellFormed.{own_kept}
 use Rattle.manager_rules.specs.HandsBack.{Reply, refused, admitted}
 use Rattle.manager_rules.specs.declared.Manager as Rules
 use Rattle.manager_parts.specs.Promises.{pool_refused}
 use Rattle.manager.specs.Entry.{own_refused}
+use Rattle.manager.proofs.Refusals.{not_on, refused-once}
 
 -- the tests in their order: what the layer tests itself, what the pool tests, and what both do
-abbrev own : Bool → Bool → Bool → Ended
-own a b k = cond a (Ends PoolClosed) (cond b (Ends PoolStopped) (cond k On (Ends NotWellFormed)))
+abbrev own : Bool → Bool → Bool → Result (Unit {0}) Outcome
+own a b k = cond a (Err PoolClosed) (cond b (Err PoolStopped) (cond k (Ok (tt {0})) (Err NotWellFormed)))
 
-abbrev pools : Bool → Bool → Bool → Bool → Bool → Ended
+abbrev pools : Bool → Bool → Bool → Bool → Bool → Result (Unit {0}) Outcome
 pools a b f d e =
-    cond a (Ends PoolClosed)
-    (cond b (Ends PoolStopped)
-    (cond (not f) (Ends NotWellFormed)
-    (cond d (Ends ShortLog)
-    (cond e (Ends IdsSpent) On))))
+    cond a (Err PoolClosed)
+    (cond b (Err PoolStopped)
+    (cond (not f) (Err NotWellFormed)
+    (cond d (Err ShortLog)
+    (cond e (Err IdsSpent) (Ok (tt {0}))))))
 
 module _ (m : Rules.Manager) where
   abbrev layers : Reply → Bool → Bool → Bool → Bool → Bool → Bool → Reply
@@ -41,16 +40,16 @@ module _ (m : Rules.Manager) where
       (cond d (refused m ShortLog)
       (cond e (refused m IdsSpent) r))))
 
-  stops : (r : Reply) (a b f k d e : Bool) → own a b k ≡ On → (o : Outcome) → pools a b f d e ≡ Ends o → layers r a b f k d e ≡ refused m o
+  stops : (r : Reply) (a b f k d e : Bool) → own a b k ≡ Ok (tt {0}) → (o : Outcome) → pools a b f d e ≡ Err o → layers r a b f k d e ≡ refused m o
   stops r true b f k d e h o q = not_on h
   stops r false true f k d e h o q = not_on h
   stops r false false f false d e h o q = not_on h
-  stops r false false false true d e h o q = ap (refused m) (ends-once q)
-  stops r false false true true true e h o q = ap (refused m) (ends-once q)
-  stops r false false true true false true h o q = ap (refused m) (ends-once q)
+  stops r false false false true d e h o q = ap (refused m) (refused-once q)
+  stops r false false true true true e h o q = ap (refused m) (refused-once q)
+  stops r false false true true false true h o q = ap (refused m) (refused-once q)
   stops r false false true true false false h o q = not_on (sym q)
 
-  goes : (a b f k d e : Bool) → own a b k ≡ On → pools a b f d e ≡ On →
+  goes : (a b f k d e : Bool) → own a b k ≡ Ok (tt {0}) → pools a b f d e ≡ Ok (tt {0}) →
       ((r : Reply) → layers r a b f k d e ≡ r) × ((a ≡ false) × ((b ≡ false) × ((f ≡ true) × ((k ≡ true) × (d ≡ false)))))
   goes true b f k d e h q = not_on h
   goes false true f k d e h q = not_on h
@@ -70,7 +69,7 @@ module _ (m : Rules.Manager) where
       (cond e (Pool.refused m.pool IdsSpent) w))))
 
   same : (g : Pool.Reply → Reply) → ((o : Outcome) → is 0 o ≡ false → g (Pool.refused m.pool o) ≡ refused m o) → (w : Pool.Reply) (a b f k d e : Bool) →
-      own a b k ≡ On → layers (g (answered w a b f d e)) a b f k d e ≡ g (answered w a b f d e)
+      own a b k ≡ Ok (tt {0}) → layers (g (answered w a b f d e)) a b f k d e ≡ g (answered w a b f d e)
   same g u w true b f k d e h = not_on h
   same g u w false true f k d e h = not_on h
   same g u w false false f false d e h = not_on h
@@ -79,7 +78,7 @@ module _ (m : Rules.Manager) where
   same g u w false false true true false true h = sym (u IdsSpent refl)
   same g u w false false true true false false h = refl
 
-  zero : (w : Pool.Reply) (a b f d e : Bool) → is 0 (answered w a b f d e).outcome ≡ true → pools a b f d e ≡ On
+  zero : (w : Pool.Reply) (a b f d e : Bool) → is 0 (answered w a b f d e).outcome ≡ true → pools a b f d e ≡ Ok (tt {0})
   zero w true b f d e h = absurd (false≢true h)
   zero w false true f d e h = absurd (false≢true h)
   zero w false false false d e h = absurd (false≢true h)
@@ -97,12 +96,12 @@ pub record Admitted (m : Rules.Manager) (log : ℕ) : Type 0 where
   pub room : LOG ≤ log
 
 -- an answer of 0 is one of a pool that went on
-pub zero-goes : (m : Rules.Manager) (log : ℕ) (w : Pool.Reply) → is 0 (Pool.admitted m.pool log w).outcome ≡ true → pool_refused m.pool log ≡ On
+pub zero-goes : (m : Rules.Manager) (log : ℕ) (w : Pool.Reply) → is 0 (Pool.admitted m.pool log w).outcome ≡ true → pool_refused m.pool log ≡ Ok (tt {0})
 unfolding Pool.admitted
 zero-goes m log w e =
     zero m w (eqb m.pool.state closed) (eqb m.pool.state stopped) (well_formed m.pool) (Pool.short_log log) (leb IDS m.pool.counter) e
 
-module _ (m : Rules.Manager) (log : ℕ) (h : own_refused m ≡ On) where
+module _ (m : Rules.Manager) (log : ℕ) (h : own_refused m ≡ Ok (tt {0})) where
   -- What is made of the pool's answer needs no test of its own, if a refusal of the pool's is made one of the layer's.
   pub admitted-same : (g : Pool.Reply → Reply) → ((o : Outcome) → is 0 o ≡ false → g (Pool.refused m.pool o) ≡ refused m o) → (w : Pool.Reply) →
       admitted m log (g (Pool.admitted m.pool log w)) ≡ g (Pool.admitted m.pool log w)
@@ -110,12 +109,12 @@ module _ (m : Rules.Manager) (log : ℕ) (h : own_refused m ≡ On) where
   admitted-same g u w =
       same m g u w (eqb m.pool.state closed) (eqb m.pool.state stopped) (well_formed m.pool) (own_kept m) (Pool.short_log log) (leb IDS m.pool.counter) h
 
-  pub admitted-stops : (o : Outcome) → pool_refused m.pool log ≡ Ends o → (r : Reply) → admitted m log r ≡ refused m o
+  pub admitted-stops : (o : Outcome) → pool_refused m.pool log ≡ Err o → (r : Reply) → admitted m log r ≡ refused m o
   unfolding admitted
   admitted-stops o q r =
       stops m r (eqb m.pool.state closed) (eqb m.pool.state stopped) (well_formed m.pool) (own_kept m) (Pool.short_log log) (leb IDS m.pool.counter) h o q
 
-  pub admitted-goes : pool_refused m.pool log ≡ On → Admitted m log
+  pub admitted-goes : pool_refused m.pool log ≡ Ok (tt {0}) → Admitted m log
   unfolding admitted
   admitted-goes q =
       let g = goes m (eqb m.pool.state closed) (eqb m.pool.state stopped) (well_formed m.pool) (own_kept m) (Pool.short_log log) (leb IDS m.pool.counter) h q in

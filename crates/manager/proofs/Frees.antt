@@ -22,34 +22,34 @@ use Rattle.tables.specs.HandsBack as Pool
 use Rattle.tables.specs.Free as Pools
 use Rattle.tables.specs.Calls.{frees, answer}
 use Rattle.tables.specs.declared.Outcome.{Outcome}
-use Rattle.tables.specs.declared.Outcome.TheVariants.{PoolClosed, PoolStopped, NotWellFormed}
-use Rattle.driving.specs.declared.Ended.TheVariants.{On, Ends}
-use Rattle.driving.proofs.Endings.{not_on}
+use Rattle.tables.specs.declared.Outcome.TheVariants.{Freed, PoolClosed, PoolStopped, NotWellFormed}
+use Rattle.std.specs.Prelude.{Ok, Err}
 use Rattle.answering.proofs.Live.{free-live}
 use Rattle.calls.specs.Promises as Calls
 use Rattle.calls.specs.declared.Called.{Called}
-use Rattle.manager_rules.specs.Values.{SMALLS, empty_small, small_of, small, with_pool}
+use Rattle.cells.specs.Table.{entries}
+use Rattle.manager_rules.specs.Values.{SMALLS, empty_small, small, with_pool}
 use Rattle.manager_rules.specs.WellFormed.{pointers_nonzero, pointers_distinct, sizes_small, small_bytes, live_bytes, current_held, own_sound, own_kept}
 use Rattle.manager_rules.specs.HandsBack.{Reply, refused, of_pool, admitted}
 use Rattle.manager_rules.specs.Free.{lowered, whole_free, drop_record, drop_answered, free_found}
 use Rattle.manager_rules.specs.declared.Manager as Rules
 use Rattle.manager_rules.specs.declared.SmallBuffer.{SmallBuffer}
 use Rattle.manager_parts.specs.Promises.{pool_refused}
-use Rattle.manager.specs.Promises.{managed}
+use Rattle.manager.specs.Handing.{Told, said_with}
 use Rattle.manager.specs.Entry.{own_refused}
 use Rattle.manager.specs.Behind.{FreesFound}
-use Rattle.manager.specs.declared.Manager.{Manager}
-use Rattle.manager.specs.declared.Managed.{Managed}
+use Rattle.manager.proofs.Refusals.{not_on}
 use Rattle.manager.proofs.Entering.{admitted-same, admitted-goes}
+use Rattle.manager.proofs.Served.{One, replies-one, said_of}
 
 -- what passes the layer's own tests
-own-tests : (a b k : Bool) → cond a (Ends PoolClosed) (cond b (Ends PoolStopped) (cond k On (Ends NotWellFormed))) ≡ On → (b ≡ false) × (k ≡ true)
+own-tests : (a b k : Bool) → cond a (Err PoolClosed) (cond b (Err PoolStopped) (cond k (Ok (tt {0})) (Err NotWellFormed))) ≡ Ok (tt {0}) → (b ≡ false) × (k ≡ true)
 own-tests true b k h = not_on h
 own-tests false true k h = not_on h
 own-tests false false true h = (refl, refl)
 own-tests false false false h = not_on h
 
-module _ (m : Rules.Manager) (h : own_refused m ≡ On) where
+module _ (m : Rules.Manager) (h : own_refused m ≡ Ok (tt {0})) where
   own-both : (leb m.small.count SMALLS ≡ true) × (own_sound m ≡ true)
   unfolding own_kept
   own-both =
@@ -72,7 +72,7 @@ module _ (m : Rules.Manager) (h : own_refused m ≡ On) where
   -- a small buffer of the table is held
   module _ (at : ℕ) (less : at < m.small.count) where
     pub small_at : get_or (small m) at empty_small ≡ get_or m.small.cells at empty_small
-    unfolding small_of
+    unfolding entries
     small_at = get_or-take m.small.count m.small.cells at empty_small less
 
     pub small-held : (get_or (small m) at empty_small).size ≤ m.current
@@ -81,7 +81,7 @@ module _ (m : Rules.Manager) (h : own_refused m ≡ On) where
         (λ beyond. omega (arith, ap (λ (b : SmallBuffer). b.size) (get_or-eq_default (small m) empty_small beyond))) (cases_lt at (length (small m)))
 
 -- The pool's free, and the figure on answer 0.
-module _ (m : Rules.Manager) (a : ℕ) (xs : List ℕ) (log : ℕ) (h : own_refused m ≡ On) where
+module _ (m : Rules.Manager) (a : ℕ) (xs : List ℕ) (log : ℕ) (h : own_refused m ≡ Ok (tt {0})) where
   abbrev left_of : Pool.Reply → Reply
   left_of r = let q = with_pool m r.pool in of_pool (cond (is 0 r.outcome) (lowered (numbers r.outcome).first q) q) r
 
@@ -92,46 +92,48 @@ module _ (m : Rules.Manager) (a : ℕ) (xs : List ℕ) (log : ℕ) (h : own_refu
   unfolding whole_free Pools.free
   free-admitted = admitted-same m log h left_of left-refused _
 
-abbrev handed : Rules.Manager → Called → Managed
-handed q c = record { manager = record { value = q }; outcome = c.outcome; records = c.records; taken = c.taken }
+module _ (m : Rules.Manager) (h : own_refused m ≡ Ok (tt {0})) (a : ℕ) (xs log log' : List ℕ) (c : Called)
+    (r : Calls.Replies (answer m.pool (frees a) xs (length log / 4)) c log log') where
+  abbrev w : Pool.Reply
+  w = answer m.pool (frees a) xs (length log / 4)
 
-module _ (m : Manager) (h : own_refused m.value ≡ On) (a : ℕ) (xs log log' : List ℕ) (c : Called)
-    (r : Calls.Replies (answer m.value.pool (frees a) xs (length log / 4)) c log log') where
+  outcome_is : c.outcome ≡ w.outcome
+  outcome_is = ap (λ (x : Called). x.outcome) r.answer
+
   -- what is freed was held
-  pub frees-held : (numbers c.outcome).number ≡ 0 → (numbers c.outcome).first ≤ m.value.current
-  frees-held z =
-      let f = free-live m.value.pool a xs (length log / 4) in
-      let e = ap (λ (x : Called). x.outcome) r.answer in
-      let w = (answer m.value.pool (frees a) xs (length log / 4)).outcome in
-      let g = f.answered (eq-eqb (numbers w).number 0 (ap (λ x. (numbers x).number) (sym e) ∙ z)) in
-      omega (arith, own_held m.value h, ap (λ x. (numbers x).first) (e ∙ g.1.1), f.bytes g.0 g.1.0 g.1.1)
+  pub freed-held : (n s : ℕ) → c.outcome ≡ Freed n s → n ≤ m.current
+  freed-held n s o =
+      let f = free-live m.pool a xs (length log / 4) in
+      omega (arith, own_held m h, f.bytes n s (sym outcome_is ∙ o))
 
-  pub frees-zero : (numbers c.outcome).number ≡ 0 → (q : Rules.Manager) → q ≡ lowered (numbers c.outcome).first (with_pool m.value c.pool.value) →
-      FreesFound none m a xs log (handed q c) log'
+  pub frees-done : (n s : ℕ) → c.outcome ≡ Freed n s → FreesFound none m a xs log (lowered n (with_pool m c.pool.value)) (Ok (said_of c)) log'
   unfolding free_found whole_free
-  frees-zero z q e =
-      let w = answer m.value.pool (frees a) xs (length log / 4) in
-      let u : is 0 w.outcome ≡ true = eq-eqb (numbers w.outcome).number 0 (ap (λ (x : Called). (numbers x.outcome).number) (sym r.answer) ∙ z) in
-      rw (free-admitted m.value a xs (length log / 4) h) record { answer = rw (e, r.answer, u); cells = r.cells }
+  frees-done n s o =
+      let e : w.outcome ≡ Freed n s = sym outcome_is ∙ o in
+      let u : is 0 w.outcome ≡ true = eq-eqb (numbers w.outcome).number 0 (ap (λ x. (numbers x).number) e) in
+      let k : (numbers w.outcome).first ≡ n = ap (λ x. (numbers x).first) e in
+      rw (free-admitted m a xs (length log / 4) h) record { answer = rw (r.answer, u, k); cells = r.cells }
 
-  pub frees-other : ((numbers c.outcome).number ≡ 0 → ⊥) → FreesFound none m a xs log (handed (with_pool m.value c.pool.value) c) log'
+  pub frees-other : ((n s : ℕ) → c.outcome ≡ Freed n s → ⊥) → FreesFound none m a xs log (with_pool m c.pool.value) (Ok (said_of c)) log'
   unfolding free_found whole_free
-  frees-other z =
-      let w = answer m.value.pool (frees a) xs (length log / 4) in
-      let u : is 0 w.outcome ≡ false = ne_eqb (numbers w.outcome).number 0 (λ v. z (ap (λ (x : Called). (numbers x.outcome).number) r.answer ∙ v)) in
-      rw (free-admitted m.value a xs (length log / 4) h) record { answer = rw (r.answer, u); cells = r.cells }
+  frees-other nothing =
+      let u : is 0 w.outcome ≡ false = other (is 0 w.outcome) refl in
+      rw (free-admitted m a xs (length log / 4) h) record { answer = rw (r.answer, u); cells = r.cells }
+    where
+      other : (b : Bool) → is 0 w.outcome ≡ b → is 0 w.outcome ≡ false
+      other false e = e
+      other true e = let g = (free-live m.pool a xs (length log / 4)).answered e in absurd (nothing g.0 g.1.0 (outcome_is ∙ g.1.1))
 
 -- A small buffer's free: one record, whatever is answered.
-drop-records : (m : Rules.Manager) (b : SmallBuffer) (x : Answer) → (drop_answered m b x).records ≡ drop_record b (code_of x) ∷ []
+drop-one : (m : Rules.Manager) (b : SmallBuffer) (x : Answer) → One (drop_answered m b x) (drop_record b (code_of x))
 unfolding drop_answered
-drop-records m b Missing = refl
-drop-records m b (Failed c) = refl
-drop-records m b (Done v) = refl
+drop-one m b Missing = record { records = refl; taken = refl }
+drop-one m b (Failed c) = record { records = refl; taken = refl }
+drop-one m b (Done v) = record { records = refl; taken = refl }
 
-module _ (m : Manager) (h : own_refused m.value ≡ On) (a : ℕ) (xs log log' : List ℕ) (goes : pool_refused m.value.pool (length log / 4) ≡ On) where
-  pub drops-one : (b : SmallBuffer) (r : Managed) → r ≡ managed (drop_answered m.value b (lent xs 0)) →
-      log' ≡ written log 0 (drop_record b (code_of (lent xs 0)) ∷ []) → FreesFound (some b) m a xs log r log'
+module _ (m : Rules.Manager) (h : own_refused m ≡ Ok (tt {0})) (a : ℕ) (xs log : List ℕ) (goes : pool_refused m.pool (length log / 4) ≡ Ok (tt {0})) where
+  pub drops-one : {log' : List ℕ} (b : SmallBuffer) (x : Answer) → x ≡ lent xs 0 → (o : Outcome) (m' : Rules.Manager) → Told (drop_answered m b x) o m' →
+      log' ≡ written log 0 (drop_record b (code_of x) ∷ []) → FreesFound (some b) m a xs log m' (Ok (said_with o 1)) log'
   unfolding free_found
-  drops-one b r e w =
-      rw ((admitted-goes m.value (length log / 4) h goes).passes (free_found m.value a xs (length log / 4) (some b)))
-      record { answer = e; cells = w ∙ ap (written log 0) (sym (drop-records m.value b (lent xs 0))) }
+  drops-one b x l o m' t u =
+      rw ((admitted-goes m (length log / 4) h goes).passes (free_found m a xs (length log / 4) (some b)), ← l) (replies-one _ _ o m' (drop-one m b x) t u)

@@ -2,15 +2,16 @@
 use mathlib.Core.Path.{◌≡◌, refl, ap, sym, ◌∙◌}
 use mathlib.Core.Bool.{Bool, true, false, cond}
 use mathlib.Core.List.{List, [], ◌∷◌, ◌++◌}
-use Prim.Native.Nat.{ℕ, ◌+◌, ◌/◌, ◌≤◌, ◌<◌, ◌^◌}
+use Prim.Native.Nat.{ℕ, ◌+◌, ◌-◌, ◌/◌, ◌≤◌, ◌<◌, ◌^◌}
 use borrow.Author.Tests.{eq-eqb, ne_eqb, le-leb, lt-leb}
 use lib.Dec.{leb}
 use lib.ListN.{length}
 use Rattle.words.specs.Log.{written}
 use Rattle.words.specs.Answers.{lent, code_of, value_of}
+use Rattle.words.specs.declared.Record.{Record}
 use Rattle.words.specs.declared.Answer.{Answer}
 use Rattle.words.specs.declared.Answer.TheVariants.{Done, Failed, Missing}
-use Rattle.words.proofs.Log.{written_none}
+use Rattle.words.specs.declared.Address.{Address}
 use Rattle.tables.specs.Values.{address}
 use Rattle.tables.specs.Outcomes.{numbers, is}
 use Rattle.tables.specs.HandsBack as Pool
@@ -18,7 +19,8 @@ use Rattle.tables.specs.Malloc.{malloc_by}
 use Rattle.tables.specs.Calls.{mallocs, answer}
 use Rattle.tables.specs.declared.Outcome.{Outcome}
 use Rattle.tables.specs.declared.Outcome.TheVariants.{Allocated, BadSize, Incredible, SmallBuffersFull}
-use Rattle.driving.specs.declared.Ended.TheVariants.{On}
+use Rattle.std.specs.Prelude.{Ok, Err}
+use Rattle.answering.proofs.Live.{malloc-live}
 use Rattle.calls.specs.Promises as Calls
 use Rattle.calls.specs.declared.Called.{Called}
 use Rattle.manager_rules.specs.Values.{SMALLS, small_buffer, small, with_pool}
@@ -27,25 +29,30 @@ use Rattle.manager_rules.specs.HandsBack.{Reply, reply, refused, of_pool, admitt
 use Rattle.manager_rules.specs.Malloc.{grown, whole_malloc, served, small_record, incredible, with_small, stopped_pool, small_answered, small_malloc}
 use Rattle.manager_rules.specs.declared.Manager as Rules
 use Rattle.manager_parts.specs.Promises.{pool_refused}
-use Rattle.manager.specs.Promises.{Replies, managed}
+use Rattle.manager.specs.Promises.{Replies}
+use Rattle.manager.specs.Handing.{Told, said_with, of_said}
 use Rattle.manager.specs.Entry.{own_refused}
 use Rattle.manager.specs.Behind.{Serves}
-use Rattle.manager.specs.declared.Manager.{Manager}
-use Rattle.manager.specs.declared.Managed.{Managed}
+use Rattle.manager.specs.declared.Said.{Said}
+use Rattle.manager.proofs.Refusals.{hands-refused}
 use Rattle.manager.proofs.Entering.{Admitted, admitted-goes, admitted-same, zero-goes}
 use Rattle.manager.proofs.Bounds.{whole-fits}
 
-taken_none : (b : Bool) → ◌≡◌ {A = ℕ} (cond b 0 0) 0
-taken_none true = refl
-taken_none false = refl
+-- A reply with one record: one answer is taken for it, but not at 17.
+pub record One (w : Reply) (x : Record) : Type 0 where
+  pub records : w.records ≡ x ∷ []
+  pub taken : w.taken ≡ cond (is 17 w.outcome) (length w.records - 1) (length w.records)
 
--- nothing changed, nothing logged
-pub refused-is : (m : Manager) (o : Outcome) → record { manager = m; outcome = o; records = 0; taken = 0 } ≡ managed (refused m.value o)
-refused-is m o = λ i. record { manager = m; outcome = o; records = 0; taken = sym (taken_none (is 17 o)) i }
-
-pub replies-none : {r : Managed} {l l' : List ℕ} (w : Reply) (m : Manager) (o : Outcome) → w ≡ refused m.value o → r ≡ managed (refused m.value o) → l' ≡ l →
-    Replies w r l l'
-replies-none {l = l} w m o e h u = rw e record { answer = h; cells = u ∙ sym (written_none l 0) }
+pub replies-one : (w : Reply) (x : Record) (o : Outcome) (m : Rules.Manager) {l l' : List ℕ} → One w x → Told w o m → l' ≡ written l 0 (x ∷ []) →
+    Replies w (of_said m (said_with o 1)) l l'
+replies-one w x o m {l} n t u =
+    let many : 1 ≡ length w.records = sym (ap length n.records) in
+    let taken : (said_with o 1).taken ≡ w.taken =
+    ap (λ z. (said_with z 1).taken) t.outcome ∙ ap (λ k. (said_with w.outcome k).taken) many ∙ sym n.taken in
+    record {
+      answer = λ i. record { manager = record { value = t.manager i }; outcome = t.outcome i; records = many i; taken = taken i };
+      cells = u ∙ ap (written l 0) (sym n.records);
+    }
 
 -- The pool's malloc, and the figures on answer 0.
 module _ (m : Rules.Manager) (k s : ℕ) (xs : List ℕ) (log : ℕ) where
@@ -55,70 +62,80 @@ module _ (m : Rules.Manager) (k s : ℕ) (xs : List ℕ) (log : ℕ) where
   made-refused : (o : Outcome) → is 0 o ≡ false → made_of (Pool.refused m.pool o) ≡ refused m o
   made-refused o e = rw e
 
-  whole-admitted : own_refused m ≡ On → admitted m log (whole_malloc m k s xs log) ≡ whole_malloc m k s xs log
+  whole-admitted : own_refused m ≡ Ok (tt {0}) → admitted m log (whole_malloc m k s xs log) ≡ whole_malloc m k s xs log
   unfolding whole_malloc malloc_by
   whole-admitted h = admitted-same m log h made_of made-refused _
 
-  whole-goes : (o : Outcome) → o ≡ (answer m.pool (mallocs k s) xs log).outcome → (numbers o).number ≡ 0 → pool_refused m.pool log ≡ On
+  whole-goes : (o : Outcome) → o ≡ (answer m.pool (mallocs k s) xs log).outcome → (numbers o).number ≡ 0 → pool_refused m.pool log ≡ Ok (tt {0})
   unfolding malloc_by
   whole-goes o e n = zero-goes m log _ (eq-eqb (numbers (answer m.pool (mallocs k s) xs log).outcome).number 0 (ap (λ x. (numbers x).number) (sym e) ∙ n))
 
-abbrev handed : Rules.Manager → Called → Managed
-handed q c = record { manager = record { value = q }; outcome = c.outcome; records = c.records; taken = c.taken }
+-- what is handed on of the pool's answer
+abbrev pub said_of : Called → Said
+said_of c = record { outcome = c.outcome; records = c.records; taken = c.taken }
 
-module _ (m : Manager) (h : own_refused m.value ≡ On) (n k s : ℕ) (xs log log' : List ℕ) (c : Called)
-    (a : Calls.Replies (answer m.value.pool (mallocs k s) xs (length log / 4)) c log log') where
+module _ (m : Rules.Manager) (h : own_refused m ≡ Ok (tt {0})) (n k s : ℕ) (xs log log' : List ℕ) (c : Called)
+    (a : Calls.Replies (answer m.pool (mallocs k s) xs (length log / 4)) c log log') where
+  abbrev w : Pool.Reply
+  w = answer m.pool (mallocs k s) xs (length log / 4)
+
+  outcome_is : c.outcome ≡ w.outcome
+  outcome_is = ap (λ (x : Called). x.outcome) a.answer
+
   -- the figures can grow by it
-  pub zero-fits : (numbers c.outcome).number ≡ 0 → request m.value.pool.page n ≡ whole k → m.value.current + k < 2 ^ 64
-  zero-fits z e =
-      let g = whole-goes m.value k s xs (length log / 4) c.outcome (ap (λ (x : Called). x.outcome) a.answer) z in
-      whole-fits m.value (length log / 4) (admitted-goes m.value (length log / 4) h g) n k e
+  pub granted-fits : (b : Address) (z : ℕ) → c.outcome ≡ Allocated b z → request m.pool.page n ≡ whole k → m.current + k < 2 ^ 64
+  granted-fits b z o e =
+      let g = whole-goes m k s xs (length log / 4) c.outcome outcome_is (ap (λ x. (numbers x).number) o) in
+      whole-fits m (length log / 4) (admitted-goes m (length log / 4) h g) n k e
 
-  pub serves-zero : (numbers c.outcome).number ≡ 0 → (q : Rules.Manager) → q ≡ grown k (with_pool m.value c.pool.value) →
-      Serves (whole k) m n s xs log (handed q c) log'
+  pub serves-granted : (b : Address) (z : ℕ) → c.outcome ≡ Allocated b z → (q : Rules.Manager) → q ≡ grown k (with_pool m c.pool.value) →
+      Serves (whole k) m n s xs log q (Ok (said_of c)) log'
   unfolding served whole_malloc
-  serves-zero z q e =
-      let w = answer m.value.pool (mallocs k s) xs (length log / 4) in
-      let u : is 0 w.outcome ≡ true = eq-eqb (numbers w.outcome).number 0 (ap (λ (x : Called). (numbers x.outcome).number) (sym a.answer) ∙ z) in
-      rw (whole-admitted m.value k s xs (length log / 4) h) record { answer = rw (e, a.answer, u); cells = a.cells }
+  serves-granted b z o q e =
+      let u : is 0 w.outcome ≡ true = eq-eqb (numbers w.outcome).number 0 (ap (λ x. (numbers x).number) (sym outcome_is ∙ o)) in
+      rw (whole-admitted m k s xs (length log / 4) h) record { answer = rw (e, a.answer, u); cells = a.cells }
 
-  pub serves-other : ((numbers c.outcome).number ≡ 0 → ⊥) → Serves (whole k) m n s xs log (handed (with_pool m.value c.pool.value) c) log'
+  pub serves-other : ((b : Address) (z : ℕ) → c.outcome ≡ Allocated b z → ⊥) → Serves (whole k) m n s xs log (with_pool m c.pool.value) (Ok (said_of c)) log'
   unfolding served whole_malloc
-  serves-other z =
-      let w = answer m.value.pool (mallocs k s) xs (length log / 4) in
-      let u : is 0 w.outcome ≡ false = ne_eqb (numbers w.outcome).number 0 (λ v. z (ap (λ (x : Called). (numbers x.outcome).number) a.answer ∙ v)) in
-      rw (whole-admitted m.value k s xs (length log / 4) h) record { answer = rw (a.answer, u); cells = a.cells }
+  serves-other none =
+      let u : is 0 w.outcome ≡ false = other (is 0 w.outcome) refl in
+      rw (whole-admitted m k s xs (length log / 4) h) record { answer = rw (a.answer, u); cells = a.cells }
+    where
+      other : (b : Bool) → is 0 w.outcome ≡ b → is 0 w.outcome ≡ false
+      other false e = e
+      other true e = let g = (malloc-live m.pool k s xs (length log / 4)).answered e in absurd (none g.0 k (outcome_is ∙ g.1))
 
 -- The driver's answer to a small buffer: one record, whatever it is.
 module _ (m : Rules.Manager) (n s : ℕ) where
-  small-records : (x : Answer) → (small_answered m n s x).records ≡ small_record (value_of x) n (code_of x) ∷ []
+  small-one : (x : Answer) → One (small_answered m n s x) (small_record (value_of x) n (code_of x))
   unfolding small_answered
-  small-records Missing = refl
-  small-records (Failed c) = refl
-  small-records (Done a) = go (incredible m a)
+  small-one Missing = record { records = refl; taken = refl }
+  small-one (Failed c) = record { records = refl; taken = refl }
+  small-one (Done a) = go (incredible m a)
     where
-      go : (b : Bool) → (cond b (reply (with_pool m (stopped_pool m.pool)) Incredible (small_record a n 0 ∷ []))
-          (reply (grown n (with_small m (small m ++ small_buffer a n s ∷ []))) (Allocated (address a) n) (small_record a n 0 ∷ []))).records
-          ≡ small_record a n 0 ∷ []
-      go true = refl
-      go false = refl
+      go : (b : Bool) → One (cond b (reply (with_pool m (stopped_pool m.pool)) Incredible (small_record a n 0 ∷ []))
+          (reply (grown n (with_small m (small m ++ small_buffer a n s ∷ []))) (Allocated (address a) n) (small_record a n 0 ∷ [])))
+          (small_record a n 0)
+      go true = record { records = refl; taken = refl }
+      go false = record { records = refl; taken = refl }
 
-module _ (m : Manager) (n s : ℕ) (xs log log' : List ℕ) (a : Admitted m.value (length log / 4)) (r : Managed) where
+module _ (m : Rules.Manager) (n s : ℕ) (xs log : List ℕ) (a : Admitted m (length log / 4)) where
   -- 6
-  pub serves-unfit : r ≡ managed (refused m.value (BadSize n)) → log' ≡ log → Serves unfit m n s xs log r log'
+  pub serves-unfit : {log' : List ℕ} → log' ≡ log → Serves unfit m n s xs log m (Err (BadSize n)) log'
   unfolding served
-  serves-unfit e u = replies-none _ m (BadSize n) (a.passes _) e u
+  serves-unfit u = hands-refused m (BadSize n) (a.passes _) u
 
   -- 20
-  pub serves-full : SMALLS ≤ m.value.small.count → r ≡ managed (refused m.value SmallBuffersFull) → log' ≡ log → Serves smaller m n s xs log r log'
+  pub serves-full : {log' : List ℕ} → SMALLS ≤ m.small.count → log' ≡ log → Serves smaller m n s xs log m (Err SmallBuffersFull) log'
   unfolding served small_malloc
-  serves-full h e u =
-      let q : leb SMALLS m.value.small.count ≡ true = le-leb SMALLS m.value.small.count h in
-      replies-none _ m SmallBuffersFull (a.passes _ ∙ (rw q)) e u
+  serves-full h u =
+      let q : leb SMALLS m.small.count ≡ true = le-leb SMALLS m.small.count h in
+      hands-refused m SmallBuffersFull (a.passes _ ∙ (rw q)) u
 
-  pub serves-small : m.value.small.count < SMALLS → (x : Answer) → x ≡ lent xs 0 → r ≡ managed (small_answered m.value n s x) →
-      log' ≡ written log 0 (small_record (value_of x) n (code_of x) ∷ []) → Serves smaller m n s xs log r log'
+  pub serves-small : {log' : List ℕ} → m.small.count < SMALLS → (x : Answer) → x ≡ lent xs 0 → (o : Outcome) (m' : Rules.Manager) →
+      Told (small_answered m n s x) o m' → log' ≡ written log 0 (small_record (value_of x) n (code_of x) ∷ []) →
+      Serves smaller m n s xs log m' (Ok (said_with o 1)) log'
   unfolding served small_malloc
-  serves-small h x l e u =
-      let q : leb SMALLS m.value.small.count ≡ false = lt-leb SMALLS m.value.small.count h in
-      rw (a.passes (small_malloc m.value n s xs), q, ← l) record { answer = e; cells = u ∙ ap (written log 0) (sym (small-records m.value n s x)) }
+  serves-small h x l o m' t u =
+      let q : leb SMALLS m.small.count ≡ false = lt-leb SMALLS m.small.count h in
+      rw (a.passes (small_malloc m n s xs), q, ← l) (replies-one _ _ o m' (small-one m n s x) t u)

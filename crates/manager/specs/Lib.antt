@@ -1,3 +1,4 @@
 pub mod Promises
+pub mod Handing
 pub mod Entry
 pub mod Behind

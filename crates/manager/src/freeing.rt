@@ -1,97 +1,91 @@
-// What a free does behind the layer's own tests.
-ghost use Rattle.std.specs.Prelude.{◌≡◌, ◌≤◌, ◌<◌, get_or};
+// A free.
+ghost use Rattle.std.specs.Prelude.{◌≡◌, ◌≤◌, ◌<◌, get_or, Ok};
 ghost use Rattle.std.proofs.Math.Option.{some, none};
-ghost use Rattle.driving.specs.declared.Ended.TheVariants.{On};
 ghost use Rattle.manager_rules.specs.Values.{SMALLS, empty_small, small};
 ghost use Rattle.manager_rules.specs.Free.{drop_answered};
-ghost use Rattle.manager.specs.Promises.{managed};
 ghost use Rattle.manager.specs.Entry.{own_refused};
-ghost use Rattle.manager.specs.Behind.{FreesFound};
+ghost use Rattle.manager.specs.Handing.{Told};
+ghost use Rattle.manager.specs.Behind.{Freed, FreesFound};
 
-use super::{Managed, Manager, entry};
+use crate::Said;
+use crate::entry::own_refused;
 use calls::Pool;
-use driving::Ended;
-use manager_rules::SmallBuffer;
+use manager_parts::{drop_record, pool_refused};
+use manager_rules::{Manager, SmallBuffer};
+use small_buffers::without_small;
 use tables::Outcome;
 use words::{Address, Answer};
 
-// The pool's free, which answers the size.
-pub fn whole_free(manager: Manager, address: Address, answers: &[u64], log: &mut [u64]) -> Managed
-    requires { own_refused manager.value ≡ On }
-    ensures { FreesFound none manager address.0 answers.now log.old result log.new }
+// The small buffers are tried before the pool.
+pub fn free(
+    m: &mut Manager,
+    address: Address,
+    answers: &[u64],
+    log: &mut [u64],
+) -> Result<Said, Outcome>
+    ensures { Freed m.old address answers.now log.old m.new result log.new }
 {
-    let mut m = manager.value;
-    let value = m.pool;
-    let asked = Pool { value };
-    let called = asked.free(address, answers, log);
-    let left = called.pool;
-    let outcome = called.outcome;
-    let pool = left.value;
-    m.pool = pool;
-    let numbers = outcome.numbers();
-    if numbers.number == 0 {
-        m.current -= numbers.first;
-    }
-    Managed {
-        manager: Manager { value: m },
-        outcome,
-        records: called.records,
-        taken: called.taken,
+    own_refused(m)?;
+    match m.small.find(address.0) {
+        Some(at) => drop_small(m, address, at, answers, log),
+        None => whole_free(m, address, answers, log),
     }
 }
 
-fn drop_answered(m: manager_rules::Manager, b: SmallBuffer, answer: Answer) -> Managed
-    requires { (m.small.count ≤ SMALLS) × (b.size ≤ m.current) }
-    ensures { result ≡ managed (drop_answered m b answer) }
+// The pool's free, which answers the size.
+fn whole_free(
+    m: &mut Manager,
+    address: Address,
+    answers: &[u64],
+    log: &mut [u64],
+) -> Result<Said, Outcome>
+    requires { own_refused m.old ≡ Ok tt }
+    ensures { FreesFound none m.old address.0 answers.now log.old m.new result log.new }
 {
-    match answer {
-        Answer::Missing => Managed {
-            manager: Manager { value: m },
-            outcome: Outcome::AnswersRanOut,
-            records: 1,
-            taken: 0,
-        },
-        Answer::Failed(code) => Managed {
-            manager: Manager { value: m },
-            outcome: Outcome::DriverFailed(code),
-            records: 1,
-            taken: 1,
-        },
-        Answer::Done(_) => {
-            let mut q = m;
-            q.small = small_buffers::without_small(m.small, b.pointer);
-            q.current = m.current - b.size;
-            Managed {
-                manager: Manager { value: q },
-                outcome: Outcome::Freed(b.size, b.stream),
-                records: 1,
-                taken: 1,
-            }
-        }
+    let called = Pool { value: m.pool }.free(address, answers, log);
+    m.pool = called.pool.value;
+    if let Outcome::Freed(size, _) = called.outcome {
+        m.current -= size;
     }
+    Ok(Said {
+        outcome: called.outcome,
+        records: called.records,
+        taken: called.taken,
+    })
 }
 
 // The small buffer at a place of its table, behind 1 to 5 of the pool.
-pub fn drop_small(
-    manager: Manager,
+fn drop_small(
+    m: &mut Manager,
     address: Address,
     at: usize,
     answers: &[u64],
     log: &mut [u64],
-) -> Managed
-    requires { (own_refused manager.value ≡ On) × (at < manager.value.small.count) }
-    ensures { FreesFound (some (get_or (small manager.value) at empty_small)) manager address.0
-        answers.now log.old result log.new }
+) -> Result<Said, Outcome>
+    requires { (own_refused m.old ≡ Ok tt) × (at < m.old.small.count) }
+    ensures { FreesFound (some (get_or (small m.old) at empty_small)) m.old address.0
+        answers.now log.old m.new result log.new }
 {
-    let m = manager.value;
-    let refused = manager_parts::pool_refused(m.pool, answers, log);
-    let Ended::On = refused else {
-        return entry::refuse(manager, refused);
-    };
-    let small = m.small;
-    let b = small.cells[at];
+    pool_refused(&m.pool, log.len() / 4)?;
+    let b = m.small.cells[at];
     let answer = Answer::at(answers, 0);
-    let record = manager_parts::drop_record(b, answer.code());
+    let record = drop_record(b, answer.code());
     record.write(log, 0);
-    drop_answered(m, b, answer)
+    let outcome = drop_answered(m, b, answer);
+    Ok(Said::with_records(outcome, 1))
+}
+
+fn drop_answered(m: &mut Manager, b: SmallBuffer, answer: Answer) -> Outcome
+    requires { (m.old.small.count ≤ SMALLS) × (b.size ≤ m.old.current) }
+    ensures { Told (drop_answered m.old b answer) result m.new }
+{
+    match answer {
+        Answer::Missing => Outcome::AnswersRanOut,
+        Answer::Failed(code) => Outcome::DriverFailed(code),
+        Answer::Done(_) => {
+            without_small(&mut m.small, b.pointer);
+            m.current -= b.size;
+            Outcome::Freed(b.size, b.stream)
+        }
+    }
 }

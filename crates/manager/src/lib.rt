@@ -10,12 +10,11 @@ mod serving;
 ghost use Rattle.std.specs.Prelude.{◌≡◌};
 ghost use Rattle.manager_rules.specs.Reset.{highest_reset};
 ghost use Rattle.manager.specs.Promises.{Opens, Mallocs, Frees, Closes};
+ghost use Rattle.manager.specs.Handing.{said_with, handed};
 
 use calls::Pool;
-use driving::Ended;
-use manager_parts::Request;
-use manager_rules::SmallBuffers;
-use tables::Choice;
+use cells::Table;
+use tables::Outcome;
 use words::Address;
 
 #[repr(C)]
@@ -32,6 +31,31 @@ pub struct Managed {
     pub outcome: tables::Outcome,
     pub records: usize,
     pub taken: usize,
+}
+
+// What a call that is served hands back beside the layer.
+#[derive(Clone, Copy)]
+struct Said {
+    outcome: Outcome,
+    records: usize,
+    taken: usize,
+}
+
+impl Said {
+    // One answer for each record, but 17's last has none.
+    fn with_records(outcome: Outcome, records: usize) -> Said
+        ensures { result ≡ said_with outcome records }
+    {
+        let taken = match outcome {
+            Outcome::AnswersRanOut => records.saturating_sub(1),
+            _ => records,
+        };
+        Said {
+            outcome,
+            records,
+            taken,
+        }
+    }
 }
 
 impl Manager {
@@ -57,73 +81,66 @@ impl Manager {
             answers,
             log,
         );
-        let left = called.pool;
-        let pool = left.value;
-        let outcome = called.outcome;
-        let small = SmallBuffers::empty();
         let value = manager_rules::Manager {
-            pool,
-            small,
+            pool: called.pool.value,
+            small: Table::empty(),
             current: 0,
             highest: 0,
         };
         Managed {
             manager: Manager { value },
-            outcome,
+            outcome: called.outcome,
             records: called.records,
             taken: called.taken,
         }
     }
 
     // A size of at least a page is rounded up and asked of the pool, a smaller one of the driver.
-    pub fn malloc(self, bytes: u64, stream: u64, answers: &[u64], log: &mut [u64]) -> Managed
+    pub fn malloc(mut self, bytes: u64, stream: u64, answers: &[u64], log: &mut [u64]) -> Managed
         ensures { Mallocs self bytes stream
             answers.now log.old result log.new }
     {
-        let refused = entry::own_refused(self.value);
-        let Ended::On = refused else {
-            return entry::refuse(self, refused);
-        };
-        let asked = manager_parts::asked_by(self.value.pool.page, bytes);
-        match asked {
-            Request::Unfit => serving::unfit(self, bytes, stream, answers, log),
-            Request::Smaller => serving::small_malloc(self, bytes, stream, answers, log),
-            Request::Whole(size) => serving::whole_malloc(self, bytes, size, stream, answers, log),
-        }
+        let ended = serving::malloc(&mut self.value, bytes, stream, answers, log);
+        self.hand_back(ended)
     }
 
     // The small buffers are tried before the pool.
-    pub fn free(self, address: Address, answers: &[u64], log: &mut [u64]) -> Managed
+    pub fn free(mut self, address: Address, answers: &[u64], log: &mut [u64]) -> Managed
         ensures { Frees self address answers.now log.old result log.new }
     {
-        let refused = entry::own_refused(self.value);
-        let Ended::On = refused else {
-            return entry::refuse(self, refused);
-        };
-        let choice = small_buffers::find_small(self.value.small, address.0);
-        match choice {
-            Choice::At(at) => freeing::drop_small(self, address, at, answers, log),
-            Choice::Nothing => freeing::whole_free(self, address, answers, log),
-        }
+        let ended = freeing::free(&mut self.value, address, answers, log);
+        self.hand_back(ended)
     }
 
     // The most that were held counts from here on.
-    pub fn reset_highest(self) -> Self
+    pub fn reset_highest(mut self) -> Self
         ensures { result.value ≡ highest_reset self.value }
     {
-        let mut value = self.value;
-        value.highest = value.current;
-        Manager { value }
+        self.value.highest = self.value.current;
+        self
     }
 
     // The small buffers go first, and then all that the pool holds.
-    pub fn close(self, answers: &[u64], log: &mut [u64]) -> Managed
+    pub fn close(mut self, answers: &[u64], log: &mut [u64]) -> Managed
         ensures { Closes self answers.now log.old result log.new }
     {
-        let refused = entry::close_refused(self.value);
-        let Ended::On = refused else {
-            return entry::refuse(self, refused);
+        let ended = closing::close(&mut self.value, answers, log);
+        self.hand_back(ended)
+    }
+
+    // A refusal leaves no record.
+    fn hand_back(self, ended: Result<Said, Outcome>) -> Managed
+        ensures { result ≡ handed self.value ended }
+    {
+        let said = match ended {
+            Ok(said) => said,
+            Err(outcome) => Said::with_records(outcome, 0),
         };
-        closing::close_all(self, answers, log)
+        Managed {
+            manager: self,
+            outcome: said.outcome,
+            records: said.records,
+            taken: said.taken,
+        }
     }
 }

@@ -1,19 +1,38 @@
 -- Laws of `drops`: how many records there are, and the loop that writes them.
 use mathlib.Core.Path.{◌≡◌, refl, ap, sym, ◌∙◌}
 use mathlib.Core.Logic.{⊎_elim}
+use mathlib.Core.Bool.{Bool, true, false, cond}
 use mathlib.Core.List.{List, [], ◌∷◌, ◌++◌, append_assoc, append-nil}
 use Prim.Native.Nat.{ℕ, ◌+◌, ◌*◌, ◌/◌, ◌≤◌, ◌<◌}
 use native.Mathlib.Omega.{arith}
 use borrow.Author.Tests.{lt-ltb, le-ltb}
+use lib.Dec.{eqb}
 use lib.ListN.{length, length-append}
 use Rattle.lists.proofs.Tests.{cases_lt}
 use Rattle.words.specs.Log.{written}
-use Rattle.words.specs.Answers.{lent, code_of}
+use Rattle.words.specs.Answers.{of_pair, lent, code_of}
+use Rattle.words.specs.declared.Answer.TheVariants.{Done, Failed, Missing}
+use Rattle.words.proofs.Answers.{lent_pair, lent-missing}
 use Rattle.words.specs.declared.Record.{Record}
 use Rattle.words.proofs.Log.{written-append, written_none}
 use Rattle.manager_rules.specs.Free.{drop_record}
 use Rattle.manager_rules.specs.Close.{drops}
 use Rattle.manager_rules.specs.declared.SmallBuffer.{SmallBuffer}
+
+-- whether there is an answer
+pair-answers : (c v : ℕ) → of_pair c v ≡ Missing → ⊥
+unfolding of_pair
+pair-answers c v = go (eqb c 0)
+  where
+    go : (b : Bool) → cond b (Done v) (Failed c) ≡ Missing → ⊥
+    go true q = let z : ◌≡◌ {A = ℕ} 0 1 = cc in absurd (omega arith)
+    go false q = let z : ◌≡◌ {A = ℕ} 0 1 = cc in absurd (omega arith)
+
+pub answered-none : (xs : List ℕ) (k : ℕ) → lent xs k ≡ Missing → length xs ≤ 2 * k + 1
+answered-none xs k e = ⊎_elim (λ h. absurd (pair-answers _ _ (sym (lent_pair xs k h) ∙ e))) (λ h. h) (cases_lt (2 * k + 1) (length xs))
+
+pub answered-some : (xs : List ℕ) (k : ℕ) → (lent xs k ≡ Missing → ⊥) → 2 * k + 1 < length xs
+answered-some xs k n = ⊎_elim (λ h. h) (λ h. absurd (n (lent-missing xs k h))) (cases_lt (2 * k + 1) (length xs))
 
 module _ (xs : List ℕ) (k : ℕ) (b : SmallBuffer) (l : List SmallBuffer) where
   pub drops-more : 2 * k + 1 < length xs → drops xs k (b ∷ l) ≡ drop_record b (code_of (lent xs k)) ∷ drops xs (k + 1) l

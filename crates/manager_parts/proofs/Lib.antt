@@ -1,5 +1,4 @@
 pub mod Sizes
 pub mod Entry
-pub mod MovesUp
 pub mod Drops
 pub mod Combined

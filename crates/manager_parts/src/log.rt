@@ -1,12 +1,11 @@
 // The records of small buffers, and their place in a log before those of the pool.
 ghost use Rattle.std.specs.Prelude.{◌≡◌, ◌++◌, ◌+◌, ◌*◌, ◌≤◌, length, take, drop};
 ghost use Rattle.words.specs.Log.{written};
-ghost use Rattle.manager_rules.specs.Values.{SMALLS, small_of};
 ghost use Rattle.manager_rules.specs.Malloc.{small_record};
 ghost use Rattle.manager_rules.specs.Free.{drop_record};
 ghost use Rattle.manager_rules.specs.Close.{drops};
 
-use manager_rules::{SmallBuffer, SmallBuffers};
+use manager_rules::SmallBuffer;
 use trace::Line;
 use words::{Answer, Record};
 
@@ -37,33 +36,22 @@ pub fn move_up(log: &mut [u64], count: usize, by: usize)
     requires { 4 * (count + by) ≤ length log.old }
     ensures { drop (4 * by) log.new ≡ take (4 * count) log.old ++ drop (4 * (count + by)) log.old }
 {
-    let mut i = 4 * count;
-    let far = 4 * by;
-    while 0 < i {
-        let j = i - 1;
-        log[j + far] = log[j];
-        i = j;
-    }
+    log.copy_within(..4 * count, 4 * by);
 }
 
 // A record for each small buffer that has an answer, and for the first that has none; how many there are.
-pub fn write_drops(small: SmallBuffers, answers: &[u64], log: &mut [u64]) -> usize
-    requires { (small.count ≤ SMALLS) × (4 * SMALLS ≤ length log.old) }
-    ensures counted { result ≡ length (drops answers.now 0 (small_of small)) }
-    ensures wrote { log.new ≡ written log.old 0 (drops answers.now 0 (small_of small)) }
+pub fn write_drops(small: &[SmallBuffer], answers: &[u64], log: &mut [u64]) -> usize
+    requires { 4 * length small.now ≤ length log.old }
+    ensures counted { result ≡ length (drops answers.now 0 small.now) }
+    ensures wrote { log.new ≡ written log.old 0 (drops answers.now 0 small.now) }
 {
-    let count = small.count;
-    let pairs = answers.len() / 2;
-    let mut i: usize = 0;
-    while i < count {
-        let b = small.cells[i];
-        let answer = Answer::at(answers, i);
-        let record = drop_record(b, answer.code());
-        record.write(log, i);
-        i += 1;
-        if pairs < i {
-            return i;
+    for (made, b) in small.iter().enumerate() {
+        let answer = Answer::at(answers, made);
+        let record = drop_record(*b, answer.code());
+        record.write(log, made);
+        if let Answer::Missing = answer {
+            return made + 1;
         }
     }
-    i
+    small.len()
 }

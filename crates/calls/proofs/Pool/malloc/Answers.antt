@@ -21,8 +21,8 @@ pub returns-in-Err : goal.returns-in-Err
 unfolding malloc_by
 returns-in-Err c = replies-none _ c.args.self _ (c.in-Err.ensures.stops _ refl _) c.refuse.ensures
 
-pub overflow_add-self : goal.overflow_add-self
-overflow_add-self c = omega (arith, spans-few _ _ (admitted (goal.at.overflow_add-self c).In_default))
+pub overflow_add-spans : goal.overflow_add-spans
+overflow_add-spans c = omega (arith, spans-few _ _ (admitted (goal.at.overflow_add-spans c).In_default))
 
 pub size_refused-requires : goal.size_refused-requires
 size_refused-requires c = page-some _ _ (admitted (goal.at.size_refused-requires c).In_default)

@@ -27,9 +27,9 @@ returns-in-Err c =
     c.closed-value.result c.closed-value.ensures)
     c.refuse.ensures
 
-pub open_steps-requires : goal.open_steps-requires
-open_steps-requires c =
-    let g = goal.at.open_steps-requires c in
+pub open_steps-ended-requires : goal.open_steps-ended-requires
+open_steps-ended-requires c =
+    let g = goal.at.open_steps-ended-requires c in
     let a = c.args in
     let e = passes g.In_default in
     let u = c.page_size-page.ensures in

@@ -1,20 +1,14 @@
 -- `manager::closing::close_pool` meets its contract: the pool's answers begin behind those of the small buffers, or at the end.
-use mathlib.Core.Path.{◌≡◌, ap, sym, ◌∙◌}
+use mathlib.Core.Path.{ap, ◌∙◌}
+use mathlib.Core.List.{List}
 use Prim.Native.Nat.{◌*◌, min}
-use borrow.Author.Rules.{rules}
 use lib.ListN.{length}
-use Rattle.lists.proofs.Tests.{length-mapped}
-use Rattle.manager_rules.specs.Values.{SMALLS}
-use Rattle.manager.proofs.Closes.{pool-closes, length-small}
+use Rattle.manager_rules.specs.declared.SmallBuffer.{SmallBuffer}
+use Rattle.manager.proofs.Closes.{pool-closes}
 use Rattle.manager.proofs.closing.close_pool.Goals as goal
 
 pub returns : goal.returns
 returns c =
-    let wide : length c.args.small.cells ≡ SMALLS = search (rules, length-mapped) in
-    let many = length-small c.args.small c.requires wide in
-    let from = c.first_behind-from in
     let xs = c.args.answers.now in
-    record {
-      counted = many;
-      closes = pool-closes c.args.pool _ from.result xs _ _ _ (from.ensures ∙ ap (λ n. min (2 * n) (length xs)) (sym many)) c.close.ensures;
-    }
+    pool-closes c.args.m.now.pool _ c.min-from.result xs _ _ _
+    (c.min-from.ensures ∙ ap (λ (l : List SmallBuffer). min (2 * length l) (length xs)) c.entries-small.ensures) c.close.ensures

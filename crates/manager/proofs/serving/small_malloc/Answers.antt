@@ -1,35 +1,34 @@
 -- `manager::serving::small_malloc` meets its contract: what the pool refuses, 20, or the driver's answer with its record.
-use mathlib.Core.Path.{refl, sym, ◌∙◌}
+use mathlib.Core.Path.{◌≡◌, refl, sym, ◌∙◌}
 use Prim.Native.Nat.{◌/◌}
 use lib.ListN.{length}
-use Rattle.manager.proofs.Entering.{Admitted, admitted-stops, admitted-goes}
+use Rattle.std.proofs.lemmas.Result.{err_from_is_err_and}
+use Rattle.manager.proofs.Refusals.{hands-refused}
+use Rattle.manager.proofs.Entering.{admitted-stops, admitted-goes}
 use Rattle.manager.proofs.Bounds.{small-fits}
-use Rattle.manager.proofs.Served.{replies-none, serves-full, serves-small}
+use Rattle.manager.proofs.Served.{serves-full, serves-small}
 use Rattle.manager.proofs.serving.small_malloc.Goals as goal
 
-pub returns-in_default : goal.returns-in_default
-returns-in_default c =
-    let e = c.in_default.is in
-    replies-none _ c.args.manager _ (admitted-stops c.args.manager.value _ c.requires.0 _ (sym c.pool_refused-refused.ensures.is ∙ e) _) (c.refuse.ensures.stops _ e)
-    c.pool_refused-refused.ensures.unchanged
+pub returns-in_err-pool_refused : goal.returns-in_err-pool_refused
+returns-in_err-pool_refused c =
+    let m = c.args.m.now in
+    let p = err_from_is_err_and c.from_residual.result c.from_residual.ensures.1 in
+    rw (p.1, p.2) (hands-refused m _ (admitted-stops m _ c.requires.0 _ (sym c.in_err-pool_refused.ensures) _) refl)
 
 pub returns-then-m-ge-SMALLS : goal.returns-then-m-ge-SMALLS
 returns-then-m-ge-SMALLS c =
-    let admitted : Admitted c.args.manager.value (length c.args.log.now / 4) =
-    admitted-goes c.args.manager.value _ c.requires.0 (sym c.pool_refused-refused.ensures.is ∙ c.in-On.is) in
     let a = c.args in
-    serves-full a.manager a.bytes a.stream _ _ _ admitted _ c.if-m-ge-SMALLS.true (c.refuse-then-m-ge-SMALLS.ensures.stops _ refl) c.pool_refused-refused.ensures.unchanged
+    serves-full a.m.now a.bytes a.stream _ _ (admitted-goes a.m.now _ c.requires.0 (sym c.in_ok-pool_refused.ensures)) c.if-m-ge-SMALLS.true refl
 
-pub small_answered-requires : goal.small_answered-requires
-small_answered-requires c =
-    let admitted : Admitted c.args.manager.value (length c.args.log.now / 4) =
-    admitted-goes c.args.manager.value _ c.requires.0 (sym c.pool_refused-refused.ensures.is ∙ c.in-On.is) in
-    small-fits c.args.manager.value _ admitted c.args.bytes c.requires.1 c.if-m-ge-SMALLS.false
+pub small_answered-outcome-requires : goal.small_answered-outcome-requires
+small_answered-outcome-requires c =
+    let a = c.args in
+    small-fits a.m.now _ (admitted-goes a.m.now (length a.log.now / 4) c.requires.0 (sym c.in_ok-pool_refused.ensures)) a.bytes c.requires.1 c.if-m-ge-SMALLS.false
 
 pub returns : goal.returns
 returns c =
-    let admitted : Admitted c.args.manager.value (length c.args.log.now / 4) =
-    admitted-goes c.args.manager.value _ c.requires.0 (sym c.pool_refused-refused.ensures.is ∙ c.in-On.is) in
     let a = c.args in
-    serves-small a.manager a.bytes a.stream _ _ _ admitted _ c.if-m-ge-SMALLS.false c.at-answer.result c.at-answer.ensures c.small_answered.ensures
-    (rw (c.pool_refused-refused.ensures.unchanged, c.small_record-record.ensures, c.value.ensures, c.code.ensures) at c.write.ensures)
+    rw c.with_records.ensures
+    (serves-small a.m.now a.bytes a.stream a.answers.now a.log.now (admitted-goes a.m.now _ c.requires.0 (sym c.in_ok-pool_refused.ensures)) c.if-m-ge-SMALLS.false c.at-answer.result c.at-answer.ensures
+    c.small_answered-outcome.result _ c.small_answered-outcome.ensures
+    (rw (c.small_record-record.ensures, c.value.ensures, c.code.ensures) at c.write.ensures))
