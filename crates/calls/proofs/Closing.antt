@@ -1,11 +1,13 @@
 -- Close, once it is admitted: what its steps hand back.
 use mathlib.Core.Path.{◌≡◌, refl, ap, ◌∙◌}
 use mathlib.Core.List.{List}
-use Prim.Native.Nat.{ℕ}
+use mathlib.Core.Bool.{cond}
+use Prim.Native.Nat.{ℕ, ◌-◌}
 use native.Mathlib.Omega.{arith}
 use lib.ListN.{length}
 use Rattle.tables.specs.Values.{Tables, tables_of}
 use Rattle.std.specs.Prelude.{Ok, Err}
+use Rattle.tables.specs.Outcomes.{is}
 use Rattle.tables.specs.Steps.{Ending}
 use Rattle.tables.specs.HandsBack.{Reply}
 use Rattle.tables.specs.Close.{close_steps, failures, close_finished}
@@ -39,8 +41,12 @@ module _ {xs l : List ℕ} (q : tables.Pool) {d : Driver} (d' : Driver) {g : ℕ
     unfolding close_finished
     closes-short c h =
         let ran = (counting c.ran).ran in
-        rw (rule, ran.goes, c.only _ refl)
-        record { answer = (rw (c.only _ refl) at h) ∙ ap (leaving_short p AnswersRanOut) (made c.ran); cells = ran.log }
+        rw (rule, ran.goes)
+        record { answer = h ∙ ap (leaving_short p _) (made c.ran) ∙ as-short _ _ (c.only _ refl); cells = ran.log }
+      where
+        as-short : (o : Outcome) (n : ℕ) → o ≡ AnswersRanOut →
+            leaving_short p o n ≡ record { pool = p; outcome = o; records = n; taken = cond (is 17 o) (n - 1) n }
+        as-short o n e = rw e refl
 
     pub closes_done : Closes d 0 q (Ok tt) d' g → {r : Called} → r ≡ leaving_closed g d'.made → Replies w r l d'.log.now
     unfolding close_finished

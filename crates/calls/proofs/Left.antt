@@ -75,6 +75,10 @@ refused-is p o = λ i. record { pool = p; outcome = o; records = 0; taken = sym 
 pub replies-none : {r : Called} {l : List ℕ} (w : Reply) (p : Pool) (o : Outcome) → w ≡ refused p.value o → r ≡ called (refused p.value o) → Replies w r l l
 replies-none {l = l} w p o e h = rw e record { answer = h; cells = sym (written_none l 0) }
 
+-- The log ends as the driver left it.
+pub replies-as : {w : Reply} {r : Called} {l m n : List ℕ} → n ≡ m → Replies w r l m → Replies w r l n
+replies-as e r = record { answer = r.answer; cells = e ∙ r.cells }
+
 -- A driver as a call begins with it.
 pub record Begins (d : Driver) (xs l : List ℕ) : Type 0 where
   pub answers : d.answers.now ≡ xs

@@ -2,7 +2,8 @@
 use mathlib.Core.Path.{refl, ap}
 use native.Mathlib.Omega.{arith}
 use Rattle.calls.proofs.Reading.{read_kept, read-tables}
-use Rattle.calls.proofs.Left.{Begins, replies-none, long}
+use Rattle.std.proofs.Common.{rules}
+use Rattle.calls.proofs.Left.{Begins, replies-none, replies-as, long}
 use Rattle.calls.proofs.Closing.{closes-short, closes_done}
 use Rattle.calls.proofs.Pool.close.Goals as goal
 use Rattle.calls.proofs.Pool.close.Goals.{After-new-driver}
@@ -22,10 +23,15 @@ close_steps-requires c =
     ((record { zombies = k.zombies; pages = k.pages; roots = k.roots }, omega arith), omega (arith, long _ b g.1))
 
 pub returns-in-Ok : goal.returns-in-Ok
-returns-in-Ok c = ?
+returns-in-Ok c =
+    let m = c.in_default.ensures in
+    replies-as (search rules)
+    (closes_done _ _ (read-tables _ _ _ (m.read refl)) (begins (goal.at.returns-in-Ok c).After-new-driver) c.args.self (m.passes refl _)
+    c.in-Ok.ensures c.leave_closed.ensures)
 
 pub returns-in-Err-close_steps : goal.returns-in-Err-close_steps
 returns-in-Err-close_steps c =
     let m = c.in_default.ensures in
-    closes-short _ _ (read-tables _ _ _ (m.read refl)) (begins (goal.at.returns-in-Err-close_steps c).After-new-driver) c.args.self (m.passes refl _)
-    c.in-Err-close_steps.ensures c.leave_short.ensures
+    replies-as (search rules)
+    (closes-short _ _ (read-tables _ _ _ (m.read refl)) (begins (goal.at.returns-in-Err-close_steps c).After-new-driver) c.args.self (m.passes refl _)
+    c.in-Err-close_steps.ensures c.leave_short.ensures)

@@ -8,7 +8,7 @@ use Rattle.tables.specs.Values.{opened, at_entry, pool_of}
 use Rattle.tables.specs.Free.{free}
 use Rattle.pool_entry.specs.Promises.{Admitted}
 use Rattle.calls.proofs.Reading.{read_opened, read_kept, read-tables}
-use Rattle.calls.proofs.Left.{Begins, replies-none, replies-left, long}
+use Rattle.calls.proofs.Left.{Begins, replies-none, replies-as, replies-left, long}
 use Rattle.calls.proofs.Freeing.{freeable, free-none, free-some}
 use Rattle.calls.proofs.Pool.free.Goals as goal
 use Rattle.calls.proofs.Pool.free.Goals.{In_default, After-new-driver}
@@ -47,5 +47,6 @@ pub returns : goal.returns
 returns c =
     let g = goal.at.returns c in
     let e = g.In_default in
-    replies-left c.args.self _ (read-tables _ _ _ (read e)) (begins g.After-new-driver) c.free_steps-ended.ensures
-    (free-some _ _ (admitted e) _ (read e) _ _ _ c.find.ensures.is _ c.in-Some.is) c.leave.ensures
+    replies-as (search rules)
+    (replies-left c.args.self _ (read-tables _ _ _ (read e)) (begins g.After-new-driver) c.free_steps-ended.ensures
+    (free-some _ _ (admitted e) _ (read e) _ _ _ c.find.ensures.is _ c.in-Some.is) c.leave.ensures)

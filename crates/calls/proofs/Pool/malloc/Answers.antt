@@ -3,10 +3,11 @@ use mathlib.Core.Path.{◌≡◌, refl, ap, sym, ◌∙◌}
 use Prim.Native.Nat.{◌/◌}
 use native.Mathlib.Omega.{arith}
 use lib.ListN.{length}
+use Rattle.std.proofs.Common.{rules}
 use Rattle.tables.specs.Malloc.{malloc_by}
 use Rattle.pool_entry.specs.Promises.{Admitted}
 use Rattle.calls.proofs.Reading.{read_opened, read-tables}
-use Rattle.calls.proofs.Left.{Begins, replies-none, replies-left, long}
+use Rattle.calls.proofs.Left.{Begins, replies-none, replies-as, replies-left, long}
 use Rattle.calls.proofs.Mallocking.{page-some, spans-few, mallocable, malloc-refused, malloc-goes}
 use Rattle.calls.proofs.Pool.malloc.Goals as goal
 use Rattle.calls.proofs.Pool.malloc.Goals.{In_default, After-new-driver}
@@ -43,5 +44,6 @@ pub returns : goal.returns
 returns c =
     let g = goal.at.returns c in
     let a = admitted g.In_default in
-    replies-left c.args.self _ (read-tables _ _ _ (c.in_default.ensures.read refl)) (begins g.After-new-driver) c.malloc_steps-ended.ensures
-    (malloc-goes _ _ a _ _ _ (sym c.size_refused.ensures ∙ c.in_default-size_refused.is)) c.leave.ensures
+    replies-as (search rules)
+    (replies-left c.args.self _ (read-tables _ _ _ (c.in_default.ensures.read refl)) (begins g.After-new-driver) c.malloc_steps-ended.ensures
+    (malloc-goes _ _ a _ _ _ (sym c.size_refused.ensures ∙ c.in_default-size_refused.is)) c.leave.ensures)

@@ -4,10 +4,11 @@ use Prim.Native.Nat.{◌/◌}
 use native.Mathlib.Omega.{arith}
 use lib.ListN.{length}
 use Rattle.std.specs.Prelude.{Ok}
+use Rattle.std.proofs.Common.{rules}
 use Rattle.tables.specs.Values.{opened, no_tables}
 use Rattle.tables.proofs.Packs.{tables-pool}
 use Rattle.calls.specs.Refusing.{open_refused}
-use Rattle.calls.proofs.Left.{Begins, replies-none, long}
+use Rattle.calls.proofs.Left.{Begins, replies-none, replies-as, long}
 use Rattle.calls.proofs.Opening.{open-refused, open-goes, open-room, open-configured, replies-opened}
 use Rattle.calls.proofs.Pool.open.Goals as goal
 use Rattle.calls.proofs.Pool.open.Goals.{In_default, After-new-driver}
@@ -47,6 +48,7 @@ returns c =
     let g = goal.at.returns c in
     let a = c.args in
     let t = no_tables c.page_size-page.result a.va_size in
-    replies-opened t (tables-pool opened t) (begins g.After-new-driver) c.open_steps-ended.ensures
+    replies-as (search rules)
+    (replies-opened t (tables-pool opened t) (begins g.After-new-driver) c.open_steps-ended.ensures
     (open-goes a.granularity a.override_size a.va_size a.initial_pages a.initial_stream _ _ (passes g.In_default) _ c.page_size-page.ensures)
-    c.leave_opened.ensures
+    c.leave_opened.ensures)
