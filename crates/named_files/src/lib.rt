@@ -5,6 +5,8 @@
 mod failures;
 mod words;
 
+ghost use Rattle.std.specs.Prelude.{◌≡◌, IfSome};
+
 pub use crate::failures::Failure;
 use crate::failures::say_failure;
 pub use crate::words::{Word, Words};
@@ -87,7 +89,9 @@ pub fn open_named<R: Files>(
     to: &mut impl Write,
     word: Result<Word, Failure>,
     called: &str,
-) -> Option<Named<R::File>> {
+) -> Option<Named<R::File>>
+    ensures { IfSome result (λ named. word ≡ Ok named.name) }
+{
     let name = match word {
         Ok(name) => name,
         Err(failure) => {

@@ -63,6 +63,7 @@ pub fn pump(
 fn printed(input: &mut impl Read, to: &mut impl Write, prints: Prints) -> Result<(), Failure> {
     let mut run = Run::new();
     let mut total: u64 = 0;
+    // kept: it counts bytes and no turns, and a read gives as many as it likes.
     while total < MOST_BYTES {
         let count = run.serve(input, to, prints)?;
         if count == 0 || run.is_over() {

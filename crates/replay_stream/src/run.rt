@@ -69,6 +69,7 @@ impl Run {
         ensures { Reads self.old.place (length chunk.now) self.new.place }
     {
         let mut at: usize = 0;
+        // kept: a turn goes to the end of the chunk or of a call, which replay_chunks finds by place.
         while at < chunk.len() {
             let step = turn(
                 self.pool,

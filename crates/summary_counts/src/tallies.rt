@@ -68,6 +68,7 @@ impl Counts {
     pub const PER_CALL: usize = 21;
 
     // The place of the lines that are no results, behind those of the four calls.
+    // kept: `Tells` says of every line at which place it stands, by `answer_place_of` and by `failed_by`, where it is 0.
     pub const NO_ANSWER: usize = 84;
 
     pub const ANSWER_PLACES: usize = 85;

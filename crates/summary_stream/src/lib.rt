@@ -48,6 +48,7 @@ pub fn pump(input: &mut impl Read, to: &mut impl Write, err: &mut impl Write) {
 fn summarized(input: &mut impl Read, to: &mut impl Write) -> Result<(), Failure> {
     let mut reader = Reader::new();
     let mut total: u64 = 0;
+    // kept: it counts bytes and no turns, and a read gives as many as it likes.
     while total < MOST_BYTES {
         let count = reader.serve(input).map_err(|_| Failure::NotRead)?;
         if count == 0 {

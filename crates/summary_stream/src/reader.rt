@@ -11,6 +11,8 @@ use trace::{Partial, Reading};
 // The bytes of one read at the most.
 const CHUNK: usize = 65536;
 
+// kept: one reader for the judge and for a summary would take a trait with a law for each promise of judge_chunks, of which a summary needs none but that a byte
+// counts at most one line.
 #[derive(Drop)]
 pub(crate) struct Reader {
     pub(crate) summary: Summary,
@@ -65,6 +67,7 @@ impl Reader {
         ensures { lines self.new ≤ lines self.old + length chunk.now }
     {
         let mut at: usize = 0;
+        // kept: a turn goes to the end of a line, which the reader finds by place.
         while at < chunk.len() && self.outcome.is_ok() {
             at = self.feed_line(chunk, at);
         }
