@@ -6,7 +6,8 @@ use named_files::{Failure, Named, Wish, Word, Words, asked_for, open_named, say}
 use std::io::Write;
 use std::rt::{Env, Files};
 
-const HELP: &[u8] = b"usage: judge [FILE..]\n\nReads a trace and prints one line on standard output: accepted, rejected or large, the\nnumber of the line, and the number of the rule or of what is too large; and why, in words,\non standard error. Without a file it reads standard input; of several files each line has\nthe file's name before it.\ndocs/TRACES.md says what the rules are, and what to look at.\n";
+const HELP: &[u8] =
+    b"usage: judge [FILE..]\n\nReads a trace and prints one line on standard output: accepted, rejected or large, the\nnumber of the line, and the number of the rule or of what is too large; and why, in words,\non standard error. Without a file it reads standard input; of several files each line has\nthe file's name before it.\ndocs/TRACES.md says what the rules are, and what to look at.\n";
 
 fn one<R: Files>(
     rt: &R,

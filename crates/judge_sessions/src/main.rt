@@ -8,12 +8,7 @@ use named_files::{Failure, Word, Words, open_named};
 use std::io::Write;
 use std::rt::Files;
 
-fn one<R: Files>(
-    rt: &R,
-    to: &mut impl Write,
-    err: &mut impl Write,
-    word: Result<Word, Failure>,
-) {
+fn one<R: Files>(rt: &R, to: &mut impl Write, err: &mut impl Write, word: Result<Word, Failure>) {
     let Some(mut named) = open_named(rt, err, word, "path") else {
         return;
     };
