@@ -1,2 +1,3 @@
+pub mod Plain
 pub mod Promises
 pub mod Manages

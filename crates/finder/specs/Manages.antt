@@ -6,14 +6,22 @@ use Rattle.tables.specs.Outcomes.{numbers}
 use Rattle.manager_rules.specs.HandsBack as rule
 use Rattle.manager_rules.specs.Open.{open_manager}
 use Rattle.manager_rules.specs.Calls.{answer}
-use Rattle.manager.specs.declared.Manager.{Manager}
+use Rattle.finder.specs.Plain.{manager_of, plain_of}
+use Rattle.finder.specs.declared.plain.PlainManager.{PlainManager}
+use Rattle.manager.specs.declared.Managed.{Managed}
 use Rattle.finder.specs.declared.ManagerReply.{ManagerReply}
+
+-- a call's answer with the numbers of its outcome
+abbrev pub manager_reply_of : Managed → ManagerReply
+manager_reply_of c =
+    let n = numbers c.outcome in
+    record { manager = plain_of c.manager.value; answer = n.number; first = n.first; second = n.second; records = c.records; taken = c.taken }
 
 -- The layer, the numbers, how many records stand in the log and how many answers were taken.
 abbrev pub told : rule.Reply → ManagerReply
 told w =
     record {
-      manager = record { value = w.manager };
+      manager = plain_of w.manager;
       answer = (numbers w.outcome).number;
       first = (numbers w.outcome).first;
       second = (numbers w.outcome).second;
@@ -31,14 +39,14 @@ abbrev pub ManagesOpen : ℕ → ℕ → ℕ → ℕ → ℕ → List ℕ → Li
 ManagesOpen granularity override va initial stream xs log r log' =
     Manages (open_manager granularity override va initial stream xs (length log / 4)) r log log'
 
-abbrev pub ManagesCall : Manager → Call → List ℕ → List ℕ → ManagerReply → List ℕ → Type 0
-ManagesCall m c xs log r log' = Manages (answer m.value c xs (length log / 4)) r log log'
+abbrev pub ManagesCall : PlainManager → Call → List ℕ → List ℕ → ManagerReply → List ℕ → Type 0
+ManagesCall m c xs log r log' = Manages (answer (manager_of m) c xs (length log / 4)) r log log'
 
-abbrev pub ManagesMalloc : Manager → ℕ → ℕ → List ℕ → List ℕ → ManagerReply → List ℕ → Type 0
+abbrev pub ManagesMalloc : PlainManager → ℕ → ℕ → List ℕ → List ℕ → ManagerReply → List ℕ → Type 0
 ManagesMalloc p bytes stream = ManagesCall p (mallocs bytes stream)
 
-abbrev pub ManagesFree : Manager → ℕ → List ℕ → List ℕ → ManagerReply → List ℕ → Type 0
+abbrev pub ManagesFree : PlainManager → ℕ → List ℕ → List ℕ → ManagerReply → List ℕ → Type 0
 ManagesFree p a = ManagesCall p (frees a)
 
-abbrev pub ManagesClose : Manager → List ℕ → List ℕ → ManagerReply → List ℕ → Type 0
+abbrev pub ManagesClose : PlainManager → List ℕ → List ℕ → ManagerReply → List ℕ → Type 0
 ManagesClose p = ManagesCall p closes

@@ -5,18 +5,26 @@ use Rattle.tables.specs.HandsBack as rule
 use Rattle.tables.specs.Open.{open_pool}
 use Rattle.tables.specs.Calls.{Call, mallocs, frees, closes, answer}
 use Rattle.tables.specs.Outcomes.{numbers}
-use Rattle.calls.specs.declared.Pool.{Pool}
+use Rattle.plain_pool.specs.Plain.{pool_of, plain_of}
+use Rattle.plain_pool.specs.declared.PlainPool.{PlainPool}
+use Rattle.calls.specs.declared.Called.{Called}
 use Rattle.finder.specs.declared.Reply.{Reply}
 
 -- The version of the layout and of the answers.
 abbrev pub version : ℕ
 version = 2
 
+-- a call's answer with the numbers of its outcome
+abbrev pub reply_of : Called → Reply
+reply_of c =
+    let n = numbers c.outcome in
+    record { pool = plain_of c.pool.value; answer = n.number; first = n.first; second = n.second; records = c.records; taken = c.taken }
+
 -- The pool, the numbers, how many records stand in the log and how many answers were taken.
 abbrev pub told : rule.Reply → Reply
 told w =
     record {
-      pool = record { value = w.pool };
+      pool = plain_of w.pool;
       answer = (numbers w.outcome).number;
       first = (numbers w.outcome).first;
       second = (numbers w.outcome).second;
@@ -34,14 +42,14 @@ abbrev pub TellsOpen : ℕ → ℕ → ℕ → ℕ → ℕ → List ℕ → List
 TellsOpen granularity override va initial stream xs log r log' =
     Tells (open_pool granularity override va initial stream xs (length log / 4)) r log log'
 
-abbrev pub TellsCall : Pool → Call → List ℕ → List ℕ → Reply → List ℕ → Type 0
-TellsCall p c xs log r log' = Tells (answer p.value c xs (length log / 4)) r log log'
+abbrev pub TellsCall : PlainPool → Call → List ℕ → List ℕ → Reply → List ℕ → Type 0
+TellsCall p c xs log r log' = Tells (answer (pool_of p) c xs (length log / 4)) r log log'
 
-abbrev pub TellsMalloc : Pool → ℕ → ℕ → List ℕ → List ℕ → Reply → List ℕ → Type 0
+abbrev pub TellsMalloc : PlainPool → ℕ → ℕ → List ℕ → List ℕ → Reply → List ℕ → Type 0
 TellsMalloc p bytes stream = TellsCall p (mallocs bytes stream)
 
-abbrev pub TellsFree : Pool → ℕ → List ℕ → List ℕ → Reply → List ℕ → Type 0
+abbrev pub TellsFree : PlainPool → ℕ → List ℕ → List ℕ → Reply → List ℕ → Type 0
 TellsFree p a = TellsCall p (frees a)
 
-abbrev pub TellsClose : Pool → List ℕ → List ℕ → Reply → List ℕ → Type 0
+abbrev pub TellsClose : PlainPool → List ℕ → List ℕ → Reply → List ℕ → Type 0
 TellsClose p = TellsCall p closes

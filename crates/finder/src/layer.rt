@@ -1,9 +1,10 @@
 // The layer that takes bytes, for C and Rust, under the same conventions.
 ghost use Rattle.std.specs.Prelude.{◌≡◌};
 ghost use Rattle.manager_rules.specs.Reset.{highest_reset};
+ghost use Rattle.finder.specs.Plain.{manager_of};
 ghost use Rattle.finder.specs.Manages.{ManagesOpen, ManagesMalloc, ManagesFree, ManagesClose};
 
-use crate::ManagerReply;
+use crate::{ManagerReply, PlainManager};
 use manager::Manager;
 use words::Address;
 
@@ -29,22 +30,12 @@ pub extern "C" fn manager_open(
         answers,
         log,
     );
-    let outcome = called.outcome;
-    let numbers = outcome.numbers();
-    let manager = called.manager;
-    ManagerReply {
-        manager,
-        answer: numbers.number,
-        first: numbers.first,
-        second: numbers.second,
-        records: called.records,
-        taken: called.taken,
-    }
+    ManagerReply::from(called)
 }
 
 #[unsafe(no_mangle)]
 pub extern "C" fn manager_malloc(
-    manager: Manager,
+    manager: PlainManager,
     bytes: u64,
     stream: u64,
     answers: &[u64],
@@ -52,64 +43,35 @@ pub extern "C" fn manager_malloc(
 ) -> ManagerReply
     ensures { ManagesMalloc manager bytes stream answers.now log.old result log.new }
 {
-    let called = manager.malloc(bytes, stream, answers, log);
-    let outcome = called.outcome;
-    let numbers = outcome.numbers();
-    let left = called.manager;
-    ManagerReply {
-        manager: left,
-        answer: numbers.number,
-        first: numbers.first,
-        second: numbers.second,
-        records: called.records,
-        taken: called.taken,
-    }
+    let value = manager_rules::Manager::from(manager);
+    ManagerReply::from(Manager { value }.malloc(bytes, stream, answers, log))
 }
 
 #[unsafe(no_mangle)]
 pub extern "C" fn manager_free(
-    manager: Manager,
+    manager: PlainManager,
     address: u64,
     answers: &[u64],
     log: &mut [u64],
 ) -> ManagerReply
     ensures { ManagesFree manager address answers.now log.old result log.new }
 {
-    let called = manager.free(Address(address), answers, log);
-    let outcome = called.outcome;
-    let numbers = outcome.numbers();
-    let left = called.manager;
-    ManagerReply {
-        manager: left,
-        answer: numbers.number,
-        first: numbers.first,
-        second: numbers.second,
-        records: called.records,
-        taken: called.taken,
-    }
+    let value = manager_rules::Manager::from(manager);
+    ManagerReply::from(Manager { value }.free(Address(address), answers, log))
 }
 
 #[unsafe(no_mangle)]
-pub extern "C" fn manager_close(manager: Manager, answers: &[u64], log: &mut [u64]) -> ManagerReply
+pub extern "C" fn manager_close(manager: PlainManager, answers: &[u64], log: &mut [u64]) -> ManagerReply
     ensures { ManagesClose manager answers.now log.old result log.new }
 {
-    let called = manager.close(answers, log);
-    let outcome = called.outcome;
-    let numbers = outcome.numbers();
-    let left = called.manager;
-    ManagerReply {
-        manager: left,
-        answer: numbers.number,
-        first: numbers.first,
-        second: numbers.second,
-        records: called.records,
-        taken: called.taken,
-    }
+    let value = manager_rules::Manager::from(manager);
+    ManagerReply::from(Manager { value }.close(answers, log))
 }
 
 #[unsafe(no_mangle)]
-pub extern "C" fn manager_reset_highest(manager: Manager) -> Manager
-    ensures { result.value ≡ highest_reset manager.value }
+pub extern "C" fn manager_reset_highest(manager: PlainManager) -> PlainManager
+    ensures { manager_of result ≡ highest_reset (manager_of manager) }
 {
-    manager.reset_highest()
+    let value = manager_rules::Manager::from(manager);
+    PlainManager::from(Manager { value }.reset_highest().value)
 }

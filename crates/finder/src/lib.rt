@@ -3,20 +3,24 @@
 #![tactic(auto)]
 
 mod layer;
+mod plain;
 
 ghost use Rattle.std.specs.Prelude.{◌≡◌};
-ghost use Rattle.finder.specs.Promises.{version, TellsOpen, TellsMalloc, TellsFree, TellsClose};
+ghost use Rattle.finder.specs.Promises.{version, reply_of, TellsOpen, TellsMalloc, TellsFree, TellsClose};
+ghost use Rattle.finder.specs.Manages.{manager_reply_of};
 
-use calls::Pool;
+use calls::{Called, Pool};
 pub use layer::{manager_close, manager_free, manager_malloc, manager_open, manager_reset_highest};
-use manager::Manager;
+use manager::Managed;
+pub use plain::{PlainManager, PlainSmallBuffers};
+use plain_pool::PlainPool;
 use words::Address;
 
 // What a call hands back: `answer` is the number, `first` and `second` its two values; `records` were written to the log, `taken` answers were taken.
 #[repr(C)]
 #[derive(Clone, Copy)]
 pub struct Reply {
-    pub pool: Pool,
+    pub pool: PlainPool,
     pub answer: u64,
     pub first: u64,
     pub second: u64,
@@ -28,7 +32,7 @@ pub struct Reply {
 #[repr(C)]
 #[derive(Clone, Copy)]
 pub struct ManagerReply {
-    pub manager: Manager,
+    pub manager: PlainManager,
     pub answer: u64,
     pub first: u64,
     pub second: u64,
@@ -46,7 +50,39 @@ pub extern "C" fn pool_version() -> u64
     VERSION
 }
 
-// Each function puts its reply together itself: one that did it for all would be handed the pool, a copy more.
+impl From<Called> for Reply {
+    ghost from_gives = { λ called reply. reply ≡ reply_of called };
+
+    #[inline(always)]
+    fn from(called: Called) -> Reply {
+        let numbers = called.outcome.numbers();
+        Reply {
+            pool: PlainPool::from(called.pool.value),
+            answer: numbers.number,
+            first: numbers.first,
+            second: numbers.second,
+            records: called.records,
+            taken: called.taken,
+        }
+    }
+}
+
+impl From<Managed> for ManagerReply {
+    ghost from_gives = { λ managed reply. reply ≡ manager_reply_of managed };
+
+    #[inline(always)]
+    fn from(managed: Managed) -> ManagerReply {
+        let numbers = managed.outcome.numbers();
+        ManagerReply {
+            manager: PlainManager::from(managed.manager.value),
+            answer: numbers.number,
+            first: numbers.first,
+            second: numbers.second,
+            records: managed.records,
+            taken: managed.taken,
+        }
+    }
+}
 
 #[unsafe(no_mangle)]
 pub extern "C" fn pool_open(
@@ -70,22 +106,12 @@ pub extern "C" fn pool_open(
         answers,
         log,
     );
-    let outcome = called.outcome;
-    let numbers = outcome.numbers();
-    let pool = called.pool;
-    Reply {
-        pool,
-        answer: numbers.number,
-        first: numbers.first,
-        second: numbers.second,
-        records: called.records,
-        taken: called.taken,
-    }
+    Reply::from(called)
 }
 
 #[unsafe(no_mangle)]
 pub extern "C" fn pool_malloc(
-    pool: Pool,
+    pool: PlainPool,
     bytes: u64,
     stream: u64,
     answers: &[u64],
@@ -93,52 +119,22 @@ pub extern "C" fn pool_malloc(
 ) -> Reply
     ensures { TellsMalloc pool bytes stream answers.now log.old result log.new }
 {
-    let called = pool.malloc(bytes, stream, answers, log);
-    let outcome = called.outcome;
-    let numbers = outcome.numbers();
-    let left = called.pool;
-    Reply {
-        pool: left,
-        answer: numbers.number,
-        first: numbers.first,
-        second: numbers.second,
-        records: called.records,
-        taken: called.taken,
-    }
+    let value = tables::Pool::from(pool);
+    Reply::from(Pool { value }.malloc(bytes, stream, answers, log))
 }
 
 #[unsafe(no_mangle)]
-pub extern "C" fn pool_free(pool: Pool, address: u64, answers: &[u64], log: &mut [u64]) -> Reply
+pub extern "C" fn pool_free(pool: PlainPool, address: u64, answers: &[u64], log: &mut [u64]) -> Reply
     ensures { TellsFree pool address answers.now log.old result log.new }
 {
-    let called = pool.free(Address(address), answers, log);
-    let outcome = called.outcome;
-    let numbers = outcome.numbers();
-    let left = called.pool;
-    Reply {
-        pool: left,
-        answer: numbers.number,
-        first: numbers.first,
-        second: numbers.second,
-        records: called.records,
-        taken: called.taken,
-    }
+    let value = tables::Pool::from(pool);
+    Reply::from(Pool { value }.free(Address(address), answers, log))
 }
 
 #[unsafe(no_mangle)]
-pub extern "C" fn pool_close(pool: Pool, answers: &[u64], log: &mut [u64]) -> Reply
+pub extern "C" fn pool_close(pool: PlainPool, answers: &[u64], log: &mut [u64]) -> Reply
     ensures { TellsClose pool answers.now log.old result log.new }
 {
-    let called = pool.close(answers, log);
-    let outcome = called.outcome;
-    let numbers = outcome.numbers();
-    let left = called.pool;
-    Reply {
-        pool: left,
-        answer: numbers.number,
-        first: numbers.first,
-        second: numbers.second,
-        records: called.records,
-        taken: called.taken,
-    }
+    let value = tables::Pool::from(pool);
+    Reply::from(Pool { value }.close(answers, log))
 }

@@ -4,7 +4,7 @@ use mathlib.Core.Bool.{Bool, true, false, cond, not}
 use Prim.Native.Nat.{ℕ}
 use native.Mathlib.Omega.{arith}
 use lib.Dec.{leb, eqb}
-use borrow.Author.Tests.{eq-eqb, lt-leb, le-ltb}
+use borrow.Author.Tests.{lt-leb, le-ltb}
 use Rattle.std.specs.Prelude.{Result, Ok, Err}
 use Rattle.tables.specs.Bounds.{IDS, LOG}
 use Rattle.tables.specs.Values.{closed, stopped}

@@ -1,9 +1,8 @@
 -- `manager_parts::asked_by` meets its contract, test by test.
-use mathlib.Core.Path.{◌≡◌, sym, ap, ◌∙◌}
+use mathlib.Core.Path.{sym, ap, ◌∙◌}
 use mathlib.Core.Logic.{⊎_elim}
-use Prim.Native.Nat.{◌<◌, max}
+use Prim.Native.Nat.{◌<◌}
 use native.Mathlib.Omega.{arith}
-use borrow.Author.Rules.{rules}
 use Rattle.std.specs.Int.{next_multiple_of}
 use Rattle.lists.proofs.Tests.{cases_lt}
 use Rattle.manager_rules.specs.Values.{BYTES}

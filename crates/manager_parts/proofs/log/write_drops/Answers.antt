@@ -1,13 +1,12 @@
 -- `manager_parts::log::write_drops` meets its contract. The invariant: the log holds the records of the buffers passed, which with those of the others are all.
 use mathlib.Core.Path.{refl, sym, ap, ◌∙◌}
-use native.Mathlib.Omega.{arith}
 use borrow.Author.Rules.{rules}
-use lib.ListN.{get_or, drop_of_length-le}
+use lib.ListN.{get_or}
 use Rattle.lists.proofs.Cells.{turn-all}
 use Rattle.words.specs.Answers.{code_of}
 use Rattle.manager_rules.specs.Free.{drop_record}
 use Rattle.manager_rules.specs.Values.{empty_small}
-use Rattle.manager_parts.proofs.Drops.{answered-none, answered-some, dropping-first, dropping-next, dropping-stop, dropping_done}
+use Rattle.manager_parts.proofs.Drops.{answered-none, answered-some, dropping-first, dropping-next, dropping-stop}
 use Rattle.manager_parts.proofs.log.write_drops.Goals as goal
 
 pub loop-made-init : goal.loop-made-init
