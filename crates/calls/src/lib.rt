@@ -87,9 +87,13 @@ impl Pool {
             answers.now log.old result log.new }
     {
         let room = log.len() / 4;
-        if let Err(outcome) =
-            refusing::open_refused(granularity, override_size, va_size, initial_pages, room)
-        {
+        if let Err(outcome) = refusing::open_refused(
+            granularity,
+            override_size,
+            va_size,
+            initial_pages,
+            room,
+        ) {
             let value = tables::Pool::closed();
             return leaving::refuse(Pool { value }, outcome);
         }

@@ -124,7 +124,12 @@ pub extern "C" fn pool_malloc(
 }
 
 #[unsafe(no_mangle)]
-pub extern "C" fn pool_free(pool: PlainPool, address: u64, answers: &[u64], log: &mut [u64]) -> Reply
+pub extern "C" fn pool_free(
+    pool: PlainPool,
+    address: u64,
+    answers: &[u64],
+    log: &mut [u64],
+) -> Reply
     ensures { TellsFree pool address answers.now log.old result log.new }
 {
     let value = tables::Pool::from(pool);
