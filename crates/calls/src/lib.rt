@@ -1,5 +1,6 @@
 // The pool: open, malloc, free, close. Each takes the pool by value and returns it with the outcome, the record count and the answers taken, for every pool
 // value, every argument, every list of answers and every log. A call tests its own copy of the pool and changes that; a refusal hands back the one that came.
+// kept: answers and log are two parameters, as C lends them; behind the entry they are one `Driver`.
 #![tactic(auto)]
 
 mod leaving;

@@ -1,5 +1,5 @@
-// The pool for C and Rust, and in layer.rt the layer that takes bytes: the four calls of each under C's conventions, with the promises of those that they call, and for the outcome its numbers
-// (docs/RULES.md 4.1).
+// The pool for C and Rust, and in layer.rt the layer that takes bytes: the four calls of each under C's conventions, with the promises of those that they
+// call, and for the outcome its numbers (docs/RULES.md 4.1).
 #![tactic(auto)]
 
 mod layer;
