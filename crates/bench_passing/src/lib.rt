@@ -10,6 +10,7 @@ ghost use Rattle.pool_entry.specs.Promises.{Stands};
 use plain_pool::PlainPool;
 use tables::Pool;
 
+// kept: C reads this struct.
 #[repr(C)]
 #[derive(Clone, Copy)]
 pub struct Passed {

@@ -26,6 +26,7 @@ pub struct Pool {
 }
 
 // `records` were written to the log, `taken` answers were taken.
+// kept: each layer's clauses name a field of its own, `pool` here and `manager` there, so one type for both is no plainer.
 #[repr(C)]
 #[derive(Clone, Copy)]
 pub struct Called {

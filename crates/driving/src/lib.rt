@@ -13,6 +13,7 @@ use tables::Outcome;
 use words::{Answer, EventId, Record, Word, answer_after};
 
 // The answers lent to a call and its log, behind the `made` driver calls that the call made so far.
+// kept: the log is lent from its first cell, and the rules count records from there.
 #[derive(Drop)]
 pub struct Driver<'a> {
     pub answers: &'a [u64],

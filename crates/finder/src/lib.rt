@@ -17,6 +17,7 @@ use plain_pool::PlainPool;
 use words::Address;
 
 // What a call hands back: `answer` is the number, `first` and `second` its two values; `records` were written to the log, `taken` answers were taken.
+// kept: C reads these two structs, and takes no type with parameters.
 #[repr(C)]
 #[derive(Clone, Copy)]
 pub struct Reply {

@@ -17,6 +17,7 @@ pub use printed::Words;
 pub use reasons::why;
 
 // What is found against a line. The comments name the numbers.
+// kept: `Unexplained` is a reason too: what is promised of it is what is promised of each.
 #[derive(Clone, Copy)]
 pub enum Reason {
     // R0
@@ -68,6 +69,7 @@ pub enum Reason {
 }
 
 // What is wrong with the form of a line. A place is counted from 0.
+// kept: `Other` is printed as the others are.
 #[derive(Clone, Copy)]
 pub enum Form {
     Empty,

@@ -36,6 +36,7 @@ impl fmt::Display for Words {
 }
 
 // What a rule is about, where nothing more is known.
+// kept: the rules are numbers, as `Verdict` has them.
 fn about(rule: u64) -> &'static str {
     match rule {
         Verdict::R0 => "a line that may not stand here",
@@ -54,6 +55,7 @@ fn about(rule: u64) -> &'static str {
 }
 
 // What is too large (docs/RULES.md 8.6).
+// kept: the sizes are numbers, as `Verdict` has them.
 fn more_than(which: u64) -> &'static str {
     match which {
         Verdict::RESERVATIONS => "more than 16 reservations at once",

@@ -13,6 +13,7 @@ pub enum Call {
 }
 
 // What the kind of a line stands for.
+// kept: `judged` says what each kind of line does, also one that stands for nothing.
 #[derive(Clone, Copy)]
 pub enum Said {
     Record(Word),
@@ -32,6 +33,7 @@ pub struct Asked {
 }
 
 // docs/RULES.md 8.1: where a trace stands.
+// kept: the rules name each of these (`run_on`, `told`, `called`), and each stands without the others.
 #[derive(Clone, Copy)]
 pub struct Run {
     // the open was read, which is the first line

@@ -50,6 +50,7 @@ fn too_long(err: &mut impl Write) {
 }
 
 // The line that says the verdict, from a place of the buffer on; the place after it.
+// kept: it promises the bytes (`verdict_line`), which a `Display` does not.
 fn put_verdict(out: &mut [u8], at: usize, v: Verdict) -> usize
     requires { at + longest_line ≤ length out.old }
     ensures { Put out.old out.new at result (verdict_line v) }

@@ -21,6 +21,7 @@ fn behind_last(chunk: &[u8]) -> usize
 }
 
 // The place behind so many line feeds of a chunk, or its end.
+// kept: the library has no method for the place behind the n-th of them.
 fn behind(chunk: &[u8], feeds: u64) -> usize
     ensures { result ≤ length chunk.now }
 {

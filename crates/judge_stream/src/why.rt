@@ -5,6 +5,7 @@ use judge_steps::State;
 use trace::{Line, Reading};
 
 // Behind the input's last read: whether the judge was well then, the lines so far, and what stands behind the last line feed, or the line that was refused.
+// kept: what stands behind the last line feed is there either way, so the flag has no value of its own.
 #[derive(Clone, Copy)]
 pub struct Last<'a> {
     pub well: bool,

@@ -16,6 +16,7 @@ pub fn close(m: &mut Manager, answers: &[u64], log: &mut [u64]) -> Result<Said, 
 {
     close_refused(m)?;
     let called = close_pool(m, answers, log);
+    // kept: the pool gives one outcome for a refusal and a close; a refusal alone has no record.
     if called.records == 0 {
         return Err(called.outcome);
     }

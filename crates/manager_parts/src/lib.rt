@@ -14,6 +14,7 @@ use pool_entry::enter;
 use tables::{Outcome, Pool};
 
 // What a size in bytes asks for: nothing that there is, a buffer of the driver's own, or so many bytes in whole pages.
+// kept: three answers, and the rules name each (`request_of`).
 #[derive(Clone, Copy, PartialEq, Eq)]
 pub enum Request {
     Unfit,

@@ -55,6 +55,7 @@ impl Manager {
     // The largest size that is asked of the pool, 2^63.
     pub const BYTES: u64 = 0x8000_0000_0000_0000;
 
+    // kept: C hands the state in as any number, as the pool's own.
     // The states of the pool.
     pub const CLOSED: u64 = 0;
 

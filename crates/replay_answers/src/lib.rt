@@ -8,6 +8,7 @@ ghost use Rattle.replay_answers.specs.Promises.{Room, Lends, Gathers};
 use trace::{Line, Partial, Reading};
 
 // Why no more lines are gathered: the chunk is read; a call; a malformed line.
+// kept: gathering cannot fail, and what was gathered stands beside each of the three.
 #[derive(Clone, Copy)]
 pub enum Stop {
     More,

@@ -61,6 +61,7 @@ fn run(pool: Pool, call: Line, answers: &[u64], log: &mut [u64]) -> Called
 }
 
 // What a call that was due left: the pool, how much of the buffer is filled, and whether it has a result.
+// kept: what is filled is there with a result or without one, so the flag has no value of its own beside it.
 #[derive(Clone, Copy)]
 pub struct Ran {
     pub pool: Pool,

@@ -20,6 +20,7 @@ pub enum Prints {
 }
 
 // Why a run ends before its input does.
+// kept: each program ends for reasons of its own and says them in its own words.
 #[derive(Clone, Copy)]
 enum Failure {
     NotRead,

@@ -92,6 +92,7 @@ impl Run {
     }
 
     // The end of the input: the call that waits is run. A last line that lacks its line feed counts, so one is read behind it.
+    // kept: replay_whole fills a buffer and says what fits, this writes to what may refuse.
     fn finish(&mut self, to: &mut impl Write, prints: Prints) -> Result<(), Failure>
         requires { self.old.place.line + 1 < 2 ^ 64 }
     {

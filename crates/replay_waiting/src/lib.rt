@@ -25,6 +25,7 @@ pub struct Place {
     pub line: u64,
     pub pending: Option<Pending>,
     pub count: usize,
+    // kept: a run that is over has read a line and lent answers all the same.
     pub over: bool,
 }
 

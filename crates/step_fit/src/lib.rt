@@ -15,6 +15,7 @@ use regions::{best_own, take_over};
 use tables::{FreeRegions, Outcome};
 
 // Every candidate is asked; the smallest of the complete ones is found, the first of equal ones.
+// kept: each look may end the call, so no `min_by_key` of the library is over it.
 fn smallest_complete(
     free: &FreeRegions,
     requested: u64,

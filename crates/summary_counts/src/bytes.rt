@@ -28,6 +28,7 @@ pub fn zombie_pages(mapped: &[Page]) -> usize
 {
     let mut zombies = 0;
     let mut newest = mapped;
+    // kept: each row is held against those before it, which no iterator hands out.
     while let Some((page, older)) = newest.split_last() {
         if is_under(older, page.handle) {
             zombies += 1;

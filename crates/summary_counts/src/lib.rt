@@ -17,6 +17,7 @@ use judge_steps::State;
 pub use tallies::{Counts, Peak, Times};
 
 // The judge's state, but for the rows of its tables: of each, how many there are.
+// kept: no copy of the judge's tables, which are some 70 KB.
 #[derive(Clone, Copy)]
 pub struct Standing {
     pub run: Run,

@@ -64,6 +64,7 @@ fn table_name(which: u64) -> &'static str {
 }
 
 // An answer number, and what it says.
+// kept: a part of the screen is no value of its own, so a `Display` would take a struct for each.
 fn put_said(f: &mut impl Write, number: usize) -> fmt::Result {
     if number == Counts::OTHER_NUMBER {
         return write!(f, "  {:<32}", "20 or more");

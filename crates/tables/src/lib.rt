@@ -248,6 +248,7 @@ impl Pool {
 }
 
 // What a call answers.
+// kept: a reply names one outcome, so those that end a call well are in the same enum as those that refuse it.
 #[derive(Clone, Copy)]
 pub enum Outcome {
     Opened(Address, u64),

@@ -316,6 +316,7 @@ pub fn put_text(
 }
 
 // The line that says where a malformed line stands.
+// kept: each is a call of `put_text`, which they have in common, and promises a line of its own.
 pub fn put_bad(out: &mut [u8], at: usize, line: u64) -> usize
     requires { at + longest_line ≤ length out.old }
     ensures { Put out.old out.new at result (bad_line line) }

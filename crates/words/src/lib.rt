@@ -128,6 +128,7 @@ fn taken_after(answers: &[u64], taken: usize) -> usize
 }
 
 // Reads the lent answers in turn: its place is behind those that were taken.
+// kept: its clauses name the place, and a caller may go on from any.
 #[derive(Clone, Copy)]
 pub struct Reader<'a> {
     answers: &'a [u64],
@@ -173,6 +174,7 @@ pub fn answer_after(answers: &[u64], taken: usize) -> Answer
 }
 
 // A record of the log.
+// kept: C reads a record as four numbers.
 #[repr(C)]
 #[derive(Clone, Copy)]
 pub struct Record {
