@@ -24,7 +24,7 @@ use Rattle.judge_rules.specs.Verdict.{ruled, sized, recorded, answered, taken, j
 use Rattle.judge_rules.specs.declared.Verdict.TheVariants.{Accepted, Rejected}
 use Rattle.agreement.specs.Runs.{Opening}
 use Rattle.agreement.specs.Premises.{Premises, reliable, credible, mapped_after}
-use Rattle.manager_rules.specs.Values.{small_of, pack_small}
+use Rattle.cells.specs.Table.{entries, pack}
 use Rattle.manager_rules.specs.Sizes.{request}
 use Rattle.manager_rules.specs.WellFormed.{own_sound, own_kept}
 use Rattle.manager_rules.specs.HandsBack.{admitted}
@@ -77,7 +77,7 @@ session =
     ∷ []
 
 session-is : trace_of opening calls ≡ session
-unfolding replied_by small_of pack_small request own_sound own_kept admitted open_manager whole_malloc incredible small_answered small_malloc served malloc whole_free drop_answered free_found free close_served close
+unfolding replied_by entries pack request own_sound own_kept admitted open_manager whole_malloc incredible small_answered small_malloc served malloc whole_free drop_answered free_found free close_served close
 session-is = refl
 
 session-opens : is 0 (opened opening).outcome ≡ true

@@ -1,5 +1,6 @@
 // The pool: open, malloc, free, close. Each takes the pool by value and returns it with the outcome, the record count and the answers taken, for every pool
 // value, every argument, every list of answers and every log. A call tests its own copy of the pool and changes that; a refusal hands back the one that came.
+// kept: answers and log are two parameters, as C lends them; behind the entry they are one `Driver`.
 #![tactic(auto)]
 
 mod leaving;
@@ -87,9 +88,13 @@ impl Pool {
             answers.now log.old result log.new }
     {
         let room = log.len() / 4;
-        if let Err(outcome) =
-            refusing::open_refused(granularity, override_size, va_size, initial_pages, room)
-        {
+        if let Err(outcome) = refusing::open_refused(
+            granularity,
+            override_size,
+            va_size,
+            initial_pages,
+            room,
+        ) {
             let value = tables::Pool::closed();
             return leaving::refuse(Pool { value }, outcome);
         }

@@ -61,7 +61,11 @@ pub extern "C" fn manager_free(
 }
 
 #[unsafe(no_mangle)]
-pub extern "C" fn manager_close(manager: PlainManager, answers: &[u64], log: &mut [u64]) -> ManagerReply
+pub extern "C" fn manager_close(
+    manager: PlainManager,
+    answers: &[u64],
+    log: &mut [u64],
+) -> ManagerReply
     ensures { ManagesClose manager answers.now log.old result log.new }
 {
     let value = manager_rules::Manager::from(manager);

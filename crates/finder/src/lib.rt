@@ -1,5 +1,5 @@
-// The pool for C and Rust, and in layer.rt the layer that takes bytes: the four calls of each under C's conventions, with the promises of those that they call, and for the outcome its numbers
-// (docs/RULES.md 4.1).
+// The pool for C and Rust, and in layer.rt the layer that takes bytes: the four calls of each under C's conventions, with the promises of those that they
+// call, and for the outcome its numbers (docs/RULES.md 4.1).
 #![tactic(auto)]
 
 mod layer;
@@ -124,7 +124,12 @@ pub extern "C" fn pool_malloc(
 }
 
 #[unsafe(no_mangle)]
-pub extern "C" fn pool_free(pool: PlainPool, address: u64, answers: &[u64], log: &mut [u64]) -> Reply
+pub extern "C" fn pool_free(
+    pool: PlainPool,
+    address: u64,
+    answers: &[u64],
+    log: &mut [u64],
+) -> Reply
     ensures { TellsFree pool address answers.now log.old result log.new }
 {
     let value = tables::Pool::from(pool);

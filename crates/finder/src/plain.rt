@@ -1,4 +1,5 @@
 // The layer as C lays it out, over the plain pool.
+// kept: no type with parameters stands in a C signature.
 ghost use Rattle.std.specs.Prelude.{◌≡◌};
 ghost use Rattle.finder.specs.Plain.{manager_of, plain_of};
 

@@ -46,6 +46,7 @@ pub struct Run {
     pub over: bool,
 }
 
+// kept: docs/RULES.md 8 numbers the rules and the sizes, and `exactly`, `only` and `verdict` speak of every number there.
 // A rejected line with its rule; a line that is too much, with what is too large there.
 #[derive(Clone, Copy)]
 pub enum Verdict {

@@ -38,6 +38,7 @@ impl State {
 }
 
 // Why a line is not taken: the rule that it breaks, or what is too large after it.
+// kept: the rule and the size are numbers, as `Verdict` and the rules of crates/judge_rules have them.
 #[derive(Clone, Copy, Drop)]
 pub enum Fault {
     Broken(u64),

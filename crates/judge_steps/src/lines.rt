@@ -39,6 +39,7 @@ fn run_on(c: Call, run: Run, l: Line) -> Run
     }
 }
 
+// kept: a `From` would have to stand beside `Said` in crates/judge_rules, which has the definitions and no code.
 #[tactic(auto, unfolding(judge_rules::specs::Said::said))]
 pub fn said_of(kind: u64) -> Said
     ensures { result ≡ said kind }

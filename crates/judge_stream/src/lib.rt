@@ -141,6 +141,7 @@ pub fn pump(
     let mut head: Head = ArrayVec::new();
     let mut p = Progress::new();
     let mut total: u64 = 0;
+    // kept: it counts bytes and no turns, and a read gives as many as it likes.
     while total < MOST_BYTES {
         let Some(n) = serve(input, &mut p, &mut head) else {
             not_read(err);

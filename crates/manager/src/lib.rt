@@ -1,5 +1,6 @@
 // The layer that takes sizes in bytes: open, malloc, free, close, over what the pool's own calls promise. Each takes the layer by value and returns it with the
 // outcome, the record count and the answers taken, for every value, every argument, every list of answers and every log.
+// kept: answers and log are two parameters, as C lends them and as each of the pool's calls takes them.
 #![tactic(auto)]
 
 mod closing;

@@ -86,6 +86,7 @@ pub fn gather(
         count,
         stop: Stop::More,
     };
+    // kept: a turn goes to the end of a line, which the reader finds by place.
     while g.at < chunk.len() {
         let r = g.partial.scan(chunk, g.at);
         g.at = r.at;

@@ -1,7 +1,6 @@
 -- The text of the tables after F and M of docs/RULES.md 9, as `rust_replay --tables` prints them, and of a closed pool, by computation.
 use mathlib.Core.Path.{◌≡◌, refl}
 use mathlib.Core.List.{[], ◌∷◌}
-use Rattle.cells.specs.Table.{entries}
 use Rattle.tables.specs.Values.{address, region, buffer, hole, zombie, page, pool_of, closed_pool}
 use Rattle.tables.specs.Session.{holding}
 use Rattle.trace.specs.Form.{ascii, decimal}

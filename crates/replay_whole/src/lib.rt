@@ -87,6 +87,7 @@ pub fn replay(input: &[u8], out: &mut [u8]) -> Replayed
     let mut place = Place::first();
     let mut at = 0;
     let mut written = 0;
+    // kept: a turn goes to the end of a call, which replay_chunks finds by place.
     while at < input.len() {
         let r = turn(
             pool,

@@ -40,14 +40,7 @@ fn open_in(
     ensures { PoolRan (open_steps initial stream) open_calls driver.old pool.old (ending result) driver.new pool.new }
 {
     let page = pool.page;
-    let base = reserve_root(
-        &mut pool.holes,
-        &mut pool.roots,
-        page,
-        pool.va,
-        0,
-        driver,
-    )?;
+    let base = reserve_root(&mut pool.holes, &mut pool.roots, page, pool.va, 0, driver)?;
     if initial == 0 {
         return Ok(Outcome::Opened(base, page));
     }

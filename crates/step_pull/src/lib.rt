@@ -51,6 +51,7 @@ pub fn pull(
     ensures { Pulls stream lacks made driver.old free.old zombies.old result driver.new free.new zombies.new }
 {
     let mut left = lacks;
+    // kept: each turn changes the table that the next region is sought in, so no iterator over it names the regions.
     while 0 < left {
         let Some(at) = next_to_pull(free, made, stream) else {
             return Ok(());

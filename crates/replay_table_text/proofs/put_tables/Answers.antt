@@ -2,7 +2,7 @@
 use mathlib.Core.Path.{◌≡◌}
 use native.Mathlib.Omega.{arith}
 use borrow.Author.Tests.{eq-eqb, ne_eqb}
-use Rattle.cells.specs.Table.{entries}
+use Rattle.cells.specs.Table.{entries as held}
 use Rattle.tables.specs.Values.{tables_of, free_of, live_of, holes_of, zombies_of, pages_of, roots_of}
 use Rattle.tables.specs.declared.Pool.{Pool}
 use Rattle.replay_table_text.specs.Tables.{counter_entry, none_entry, entries, tables_text}
@@ -23,7 +23,7 @@ returns-then-pool-eq0 c =
     puts_as (closed-text c.args.pool c.if-pool-eq0.true) (omega arith) c.put_entry.ensures
 
 pub returns : goal.returns
-unfolding counter_entry entries tables_of
+unfolding counter_entry entries tables_of held
 returns c =
     puts_as
     (open-text c.args.pool c.if-pool-eq0.false)

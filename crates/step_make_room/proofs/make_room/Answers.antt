@@ -37,9 +37,10 @@ pub pull_in-requires-2 : goal.pull_in-requires-2
 pull_in-requires-2 c =
     let w = c.in_ok-room.ensures in
     let i = c.in_ok-region.ensures in
-    let short : c.in_ok-region.region.size < c.args.requested = omega (arith, c.if-requested-region.false) in
-    (fillable-rest c.requires.0 w (omega (arith, c.if-room-eq0.false)) i short,
-      omega (arith, c.requires.1, w.most, w.lent.cells, i.walked.most, i.walked.lent.cells))
+    let short : c.in_ok-region.region.size < c.args.requested = omega (arith, c.if-requested-region.false) in (
+      fillable-rest c.requires.0 w (omega (arith, c.if-room-eq0.false)) i short,
+      omega (arith, c.requires.1, w.most, w.lent.cells, i.walked.most, i.walked.lent.cells),
+    )
 
 pub returns : goal.returns
 returns c =

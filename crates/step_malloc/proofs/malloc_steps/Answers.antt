@@ -26,9 +26,10 @@ returns-in_err-at c =
 pub malloc_room-requires : goal.malloc_room-requires
 malloc_room-requires c =
     let w = c.in_ok-cleanup.ensures in
-    let v = rw c.in_default.is at c.in_ok-at.ensures in
-    (still-mallocable c.requires.0 c.args.stream w v,
-      omega (arith, c.requires.1, fit-made c.requires.0 c.args.stream w v, w.lent.cells, v.lent.cells))
+    let v = rw c.in_default.is at c.in_ok-at.ensures in (
+      still-mallocable c.requires.0 c.args.stream w v,
+      omega (arith, c.requires.1, fit-made c.requires.0 c.args.stream w v, w.lent.cells, v.lent.cells),
+    )
 
 pub returns-in_default : goal.returns-in_default
 returns-in_default c = roomed_out c.requires.0 c.args.stream c.in_ok-cleanup.ensures (rw c.in_default.is at c.in_ok-at.ensures) _ c.malloc_room.ensures

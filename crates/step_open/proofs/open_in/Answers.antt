@@ -22,9 +22,10 @@ returns-then-initial-eq0 c =
 
 pub make_room-requires : goal.make_room-requires
 make_room-requires c =
-    let w = c.in_ok-base.ensures in
-    (roomable c.requires.configured.0 c.requires.empty c.args.stream w (omega (arith, c.if-initial-eq0.false)),
-      omega (arith, c.requires.configured.1, w.most, w.lent.cells))
+    let w = c.in_ok-base.ensures in (
+      roomable c.requires.configured.0 c.requires.empty c.args.stream w (omega (arith, c.if-initial-eq0.false)),
+      omega (arith, c.requires.configured.1, w.most, w.lent.cells),
+    )
 
 pub returns-in_err-make_room : goal.returns-in_err-make_room
 returns-in_err-make_room c =

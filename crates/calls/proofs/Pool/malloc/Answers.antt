@@ -36,9 +36,10 @@ returns-in-Err-size_refused c =
 pub malloc_steps-ended-requires : goal.malloc_steps-ended-requires
 malloc_steps-ended-requires c =
     let g = goal.at.malloc_steps-ended-requires c in
-    let a = admitted g.In_default in
-    (mallocable _ _ a _ (sym c.size_refused.ensures ∙ c.in_default-size_refused.is) _ (read_opened _ _ a.state (c.in_default.ensures.read refl)),
-      omega (arith, long _ (begins g.After-new-driver) a.log))
+    let a = admitted g.In_default in (
+      mallocable _ _ a _ (sym c.size_refused.ensures ∙ c.in_default-size_refused.is) _ (read_opened _ _ a.state (c.in_default.ensures.read refl)),
+      omega (arith, long _ (begins g.After-new-driver) a.log),
+    )
 
 pub returns : goal.returns
 returns c =
