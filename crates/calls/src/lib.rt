@@ -135,8 +135,14 @@ impl Pool {
             return leaving::refuse(self, Outcome::InvalidPointer(address));
         };
         let mut driver = Driver::new(answers, log);
-        let ended = free_steps(&mut pool, at, &mut driver);
-        leaving::leave(self, pool, ended, driver.made)
+        let freed = free_steps(
+            &mut pool.live,
+            &mut pool.free,
+            &mut pool.counter,
+            at,
+            &mut driver,
+        );
+        leaving::leave(self, pool, freed, driver.made)
     }
 
     // Sync, zombies, pages, roots: all that the pool holds goes back to the driver, and no failure ends it.

@@ -50,6 +50,7 @@ pub steps-left : {i : ℕ} {b o : LiveBuffers} {f g : FreeRegions} {c n : ℕ} {
 unfolding tables_of
 steps-left {i} {b} {r = r} h e w =
     record {
+      lent = w.lent;
       ran = λ p whole.
           record {
             lent = w.lent;

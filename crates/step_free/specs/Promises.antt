@@ -7,6 +7,7 @@ use Rattle.tables.specs.Free.{free_steps}
 use Rattle.tables.specs.declared.Outcome.{Outcome}
 use Rattle.tables.specs.declared.Pool.{Pool}
 use Rattle.keeping.specs.Sound.{Kept}
+use Rattle.driving.specs.Ran.{Lent}
 use Rattle.driving.specs.Pools.{PoolRan}
 use Rattle.driving.specs.Endings.{ending}
 use Rattle.driving.specs.declared.Driver.{Driver}
@@ -36,8 +37,9 @@ pub record Freeable (i : ℕ) (b : LiveBuffers) (f : FreeRegions) (c : ℕ) : Ty
   pub ids : c < END
   pub placed : i < b.count
 
--- In every kept pool with these tables and this counter, the buffer at the place `i` is freed, with one driver call.
+-- In every kept pool with these tables and this counter, the buffer at the place `i` is freed, with one driver call. What was lent needs no pool.
 pub record FreeRan (i : ℕ) (b : LiveBuffers) (f : FreeRegions) (c : ℕ) (d : Driver) (r : Result Outcome Outcome) (d' : Driver) (b' : LiveBuffers)
     (f' : FreeRegions) (c' : ℕ) : Type 0 where
+  pub lent : Lent d d'
   pub ran : (p : Pool) → KeptPool (holding b f c p) →
       PoolRan (free_steps (get_or (live_of b) i empty_buffer)) 1 d (holding b f c p) (ending r) d' (holding b' f' c' p)

@@ -9,7 +9,7 @@ use Rattle.tables.specs.Free.{free}
 use Rattle.pool_entry.specs.Promises.{Admitted}
 use Rattle.calls.proofs.Reading.{read_opened, read_kept, read-tables}
 use Rattle.calls.proofs.Left.{Begins, replies-none, replies-as, replies-left, long}
-use Rattle.calls.proofs.Freeing.{freeable, free-none, free-some}
+use Rattle.calls.proofs.Freeing.{freeable, steps-ran, free-none, free-some}
 use Rattle.calls.proofs.Pool.free.Goals as goal
 use Rattle.calls.proofs.Pool.free.Goals.{In_default, After-new-driver}
 
@@ -37,16 +37,21 @@ returns-in_default-find c =
     let e = (goal.at.returns-in_default-find c).In_default in
     replies-none _ c.args.self _ (free-none _ _ (admitted e) _ (read e) _ _ _ c.find.ensures.is c.in_default-find.is) c.refuse-in_default-find.ensures
 
-pub free_steps-ended-requires : goal.free_steps-ended-requires
-free_steps-ended-requires c =
-    let g = goal.at.free_steps-ended-requires c in
+pub free_steps-freed-requires : goal.free_steps-freed-requires
+free_steps-freed-requires c =
+    let g = goal.at.free_steps-freed-requires c in
     let e = g.In_default in
     (freeable _ _ (admitted e) _ (read e) _ _ c.in-Some.is c.find.ensures.placed, omega (arith, long _ (begins g.After-new-driver) (admitted e).log))
+
+pub leave-requires : goal.leave-requires
+leave-requires c =
+    let e = (goal.at.leave-requires c).In_default in
+    (steps-ran _ _ (admitted e) _ (read e) c.free_steps-freed.ensures).kept
 
 pub returns : goal.returns
 returns c =
     let g = goal.at.returns c in
     let e = g.In_default in
     replies-as (search rules)
-    (replies-left c.args.self _ (read-tables _ _ _ (read e)) (begins g.After-new-driver) c.free_steps-ended.ensures
+    (replies-left c.args.self _ (read-tables _ _ _ (read e)) (begins g.After-new-driver) (steps-ran _ _ (admitted e) _ (read e) c.free_steps-freed.ensures)
     (free-some _ _ (admitted e) _ (read e) _ _ _ c.find.ensures.is _ c.in-Some.is) c.leave.ensures)
