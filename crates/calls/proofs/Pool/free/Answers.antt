@@ -43,11 +43,6 @@ free_steps-freed-requires c =
     let e = g.In_default in
     (freeable _ _ (admitted e) _ (read e) _ _ c.in-Some.is c.find.ensures.placed, omega (arith, long _ (begins g.After-new-driver) (admitted e).log))
 
-pub leave-requires : goal.leave-requires
-leave-requires c =
-    let e = (goal.at.leave-requires c).In_default in
-    (steps-ran _ _ (admitted e) _ (read e) c.free_steps-freed.ensures).kept
-
 pub returns : goal.returns
 returns c =
     let g = goal.at.returns c in
@@ -55,3 +50,8 @@ returns c =
     replies-as (search rules)
     (replies-left c.args.self _ (read-tables _ _ _ (read e)) (begins g.After-new-driver) (steps-ran _ _ (admitted e) _ (read e) c.free_steps-freed.ensures)
     (free-some _ _ (admitted e) _ (read e) _ _ _ c.find.ensures.is _ c.in-Some.is) c.leave.ensures)
+
+pub leave-requires : goal.leave-requires
+leave-requires c =
+    let e = (goal.at.leave-requires c).In_default in
+    (steps-ran _ _ (admitted e) _ (read e) c.free_steps-freed.ensures).kept
