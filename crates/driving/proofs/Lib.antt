@@ -1,3 +1,4 @@
+pub mod Answers
 pub mod Ran
 pub mod Lent
 pub mod Endings

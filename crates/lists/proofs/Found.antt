@@ -1,5 +1,6 @@
 -- The first element that passes a test, by its place: as a loop over a table's cells finds it, and what is read or taken out there.
-use mathlib.Core.Path.{◌≡◌, refl, ap}
+use mathlib.Core.Path.{◌≡◌, refl, ap, sym, ◌∙◌}
+use mathlib.Core.Logic.{⊎_elim}
 use mathlib.Core.Bool.{Bool, true, false, cond}
 use mathlib.Core.List.{List, [], ◌∷◌}
 use mathlib.Core.Option.{some, none}
@@ -10,6 +11,7 @@ use lib.ListN.{length, get_or, take, drop}
 use Rattle.lists.specs.Tests.{first}
 use Rattle.lists.specs.Places.{remove_at, place}
 use Rattle.lists.proofs.Cells.{turn, ends}
+use Rattle.lists.proofs.Tests.{cases_lt}
 
 module _ {A : Type 0} where
   module _ (p : A → Bool) where
@@ -30,6 +32,18 @@ module _ {A : Type 0} where
         go : (b : Bool) → (length l ≤ place p l → first p l ≡ none) → suc (length l) ≤ cond b 0 (suc (place p l)) → cond b (some x) (first p l) ≡ none
         go true f k = absurd (omega arith)
         go false f k = f (le_of_suc-le-suc k)
+
+    -- the first passes; where there is none, no place is found
+    pub first-passes : (l : List A) (x : A) → first p l ≡ some x → p x ≡ true
+    first-passes [] x e = let z : ◌≡◌ {A = ℕ} 0 1 = cc in absurd (omega arith)
+    first-passes (y ∷ l) x e = go (p y) refl (first-passes l x) e
+      where
+        go : (b : Bool) → p y ≡ b → (first p l ≡ some x → p x ≡ true) → cond b (some y) (first p l) ≡ some x → p x ≡ true
+        go true t f q = let r : y ≡ x = cc in ap p (sym r) ∙ t
+        go false t f q = f q
+
+    pub none-first : (l : List A) (d : A) → first p l ≡ none → length l ≤ place p l
+    none-first l d e = ⊎_elim (λ h. let f = first-at l d h in let z : ◌≡◌ {A = ℕ} 0 1 = cc in absurd (omega arith)) (λ h. h) (cases_lt (place p l) (length l))
 
   -- past the list there is nothing to take out
   pub remove_at-past : (i : ℕ) (l : List A) → length l ≤ i → remove_at i l ≡ l

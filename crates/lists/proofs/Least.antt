@@ -55,6 +55,10 @@ module _ {A : Type 0} (key : A → ℕ) where
   lesser_assoc (some x) (some y) none = refl
   lesser_assoc (some x) (some y) (some z) = ap some (smaller_assoc x y z)
 
+  pub least-append : (l m : List A) → least key (l ++ m) ≡ lesser (least key l) (least key m)
+  least-append [] m = refl
+  least-append (x ∷ l) m = ap (lesser (some x)) (least-append l m) ∙ sym (lesser_assoc (some x) (least key l) (least key m))
+
   -- What a best says of the list `l` after its first `i` places: its place is one of them, and its key is that element's.
   abbrev pub Marks : A → List A → ℕ → Found Best → Type 0
   Marks z l i None = Unit {0}

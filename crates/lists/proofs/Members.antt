@@ -102,6 +102,10 @@ module _ {A : Type 0} where
         go false f (inr n) = inr (f n)
     put_keeps x y [] m = elim m [ ]
 
+    pub member-sorted : (x : A) (l : List A) → Member x (sorted key l) → Member x l
+    member-sorted x (y ∷ l) m = ⊎_elim (λ e. inl e) (λ n. inr (member-sorted x l n)) (member-put x y (sorted key l) m)
+    member-sorted x [] m = elim m [ ]
+
     -- the least is one of them
     pub member-least : (x : A) (l : List A) → least key l ≡ some x → Member x l
     member-least x [] e = let z : ◌≡◌ {A = ℕ} 0 1 = cc in absurd (omega arith)

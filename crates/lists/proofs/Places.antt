@@ -40,6 +40,13 @@ module _ {ℓ} {A : Type ℓ} where
   remove_at_seam [] x m = refl
   remove_at_seam (y ∷ l) x m = ap (λ k. y ∷ k) (remove_at_seam l x m)
 
+  -- what stands before the place, and what stands after it
+  pub take-remove_at : (i : ℕ) (l : List A) → take i (remove_at i l) ≡ take i l
+  take-remove_at zero [] = refl
+  take-remove_at (suc i) [] = refl
+  take-remove_at zero (x ∷ l) = refl
+  take-remove_at (suc i) (x ∷ l) = ap (λ m. x ∷ m) (take-remove_at i l)
+
   drop_remove : (i : ℕ) (l : List A) → drop i (remove_at i l) ≡ drop (suc i) l
   drop_remove zero [] = refl
   drop_remove (suc i) [] = refl

@@ -2,3 +2,4 @@ pub mod Choosing
 pub mod Pulling
 pub mod Splitting
 pub mod CutRegion
+pub mod Without

@@ -1,6 +1,5 @@
 -- `cut_region` meets its contract: `cut-some` is the store of the rest, and `cut_all` the region taken out where nothing is left.
 use mathlib.Core.Path.{◌≡◌, ap, sym, ◌∙◌}
-use Prim.Native.Nat.{◌+◌}
 use native.Mathlib.Omega.{arith}
 use lib.ListN.{set, length-set}
 use Rattle.lists.proofs.Cells.{packed-set}
@@ -12,9 +11,10 @@ use Rattle.regions.specs.Cutting.{region_at}
 use Rattle.regions.proofs.CutRegion.{within, rest, cut_all, cut-some}
 use Rattle.regions.proofs.cutting.cut_region.Goals as goal
 
-pub overflow_add-free : goal.overflow_add-free
-overflow_add-free c =
-    omega (arith, ap (λ q. q.start.0 + q.size) (free_cell c.args.free.now c.args.at c.requires.placed))
+pub rest_of-requires : goal.rest_of-requires
+rest_of-requires c =
+    let here = free_cell c.args.free.now c.args.at c.requires.placed in
+    (omega arith, rw here at c.requires.ends)
 
 pub returns-then-taken-r : goal.returns-then-taken-r
 unfolding entries pack
@@ -26,7 +26,7 @@ returns-then-taken-r c =
     let q = rest t at c.args.taken c.requires in
     let stored : set t.cells at q ≡ (pack_free (set l at q)).cells =
     ap (λ m. set m at q) c.requires.kept.whole ∙ packed-set SPANS empty_region l at q (within t at c.args.taken c.requires) in
-    rw (cut-some t at c.args.taken c.requires (rw here c.if-taken-r.true), ← here)
+    rw (cut-some t at c.args.taken c.requires (rw here c.if-taken-r.true), c.rest_of.ensures, ← here)
     (λ i. record { cells = stored i; count = (free-count t c.requires.kept ∙ sym (length-set l at q)) i })
 
 pub returns-else-taken-r : goal.returns-else-taken-r
