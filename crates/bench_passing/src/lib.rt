@@ -40,7 +40,7 @@ pub extern "C" fn measured_looked(pool: PlainPool) -> Passed
 pub extern "C" fn measured_tested(pool: PlainPool) -> Passed
     ensures { (result.pool ≡ pool) × (result.sound ≡ well_formed (pool_of pool)) }
 {
-    let sound = pool_entry::well_formed(&mut Pool::from(pool));
+    let sound = pool_entry::is_well_formed(&mut Pool::from(pool));
     Passed { pool, sound }
 }
 
@@ -48,5 +48,5 @@ pub extern "C" fn measured_tested(pool: PlainPool) -> Passed
 pub extern "C" fn measured_well_formed(pool: PlainPool) -> bool
     ensures { result ≡ well_formed (pool_of pool) }
 {
-    pool_entry::well_formed(&mut Pool::from(pool))
+    pool_entry::is_well_formed(&mut Pool::from(pool))
 }

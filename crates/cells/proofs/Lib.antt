@@ -4,3 +4,4 @@ pub mod Shifts
 pub mod Firsts
 pub mod Rests
 pub mod Ascending
+pub mod Settled

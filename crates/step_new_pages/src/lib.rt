@@ -84,7 +84,7 @@ pub fn make_pages(
         }
         let start = Address(at);
         driver.must_tell(Word::Map, at, handle.0)?;
-        pages.put(Page { start, handle });
+        pages.put_from_end(Page { start, handle });
         at += page;
     }
     Ok(())

@@ -4,7 +4,10 @@ use Prim.Native.Nat.{◌+◌, ◌-◌}
 use native.Mathlib.Omega.{arith}
 use borrow.Author.Rules.{rules}
 use Rattle.std.proofs.lemmas.Result.{err_from_is_err_and}
+use Rattle.lists.proofs.Order.{rises-ascends}
 use Rattle.tables.specs.Steps.{on}
+use Rattle.tables.specs.Values.{pages_of}
+use Rattle.tables.specs.NewPages.{at}
 use Rattle.step_new_pages.proofs.Making.{
   making-begins,
   making_done,
@@ -65,10 +68,13 @@ returns-in_err-must_tell c =
     (making-unmapped c.loop.invariant (omega (arith, c.loop-test.true)) c.in_ok-handle.ensures (ap on c.in-Done.is)
     (sym c.is_active.ensures ∙ c.if-is_active.false) c.in_err-must_tell.ensures refl)
 
-pub put-requires : goal.put-requires
-put-requires c =
+pub put_from_end-requires-clause-room : goal.put_from_end-requires-clause-room
+put_from_end-requires-clause-room c =
     let w = c.loop.invariant in
-    (search rules, (w.pages, room_for-one w (omega (arith, c.loop-test.true))))
+    (w.pages, room_for-one w (omega (arith, c.loop-test.true)))
+
+pub put_from_end-requires-clause-ascends : goal.put_from_end-requires-clause-ascends
+put_from_end-requires-clause-ascends c = rises-ascends at 0 (pages_of c.loop.pages) c.loop.invariant.taken.sound.pages_rise
 
 pub overflow_add-at : goal.overflow_add-at
 overflow_add-at c = omega (arith, page-fits c.loop.invariant (omega (arith, c.loop-test.true)))
@@ -78,7 +84,7 @@ loop-preserved c =
     let left : c.args.count - c.loop.counter - 1 ≡ c.args.count - (c.loop.counter + 1) = omega arith in
     rw left at
     (making-next c.loop.invariant (omega (arith, c.loop-test.true)) c.in_ok-handle.ensures (ap on c.in-Done.is)
-    (sym c.is_active.ensures ∙ c.if-is_active.false) c.in_ok-must_tell.ensures refl c.put.ensures)
+    (sym c.is_active.ensures ∙ c.if-is_active.false) c.in_ok-must_tell.ensures refl c.put_from_end.ensures)
 
 pub returns : goal.returns
 returns c = making_done c.loop.invariant (omega (arith, c.loop-test.false))
