@@ -44,7 +44,7 @@ const MOST_BYTES: u64 = 0x8000_0000_0000_0000;
 // Why a run ends is shorter.
 const TEXT_ROOM: usize = 64;
 
-// To standard error, by the name that the program was called by. What stands behind the name is written at once.
+// To standard error, by the name that the program was called by. The rest of the line is one write, so that no other program's line comes into it.
 fn complain(rt: &impl Env, err: &mut impl Write, failure: Failure) {
     let mut name = [0u8; NAME_ROOM];
     if let Ok(n) = rt.arg(0, &mut name) {

@@ -42,7 +42,7 @@ impl fmt::Display for Failure {
     }
 }
 
-// At once.
+// In one write, so that no other program's line comes into it.
 fn complain(err: &mut impl Write, failure: Failure) {
     let mut line = ArrayString::<LINE_ROOM>::new();
     let _ = writeln!(line, "summary: {failure}");
