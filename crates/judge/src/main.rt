@@ -16,7 +16,7 @@ fn one<R: Files>(
     word: Result<Word, Failure>,
     named: bool,
 ) {
-    let Some(Named { mut file, name }) = open_named(rt, err, word, "a file's name") else {
+    let Some(Named { mut file, name }) = open_named(rt, err, word, b"a file's name") else {
         return;
     };
     if named {
@@ -37,7 +37,7 @@ fn main(rt: HostRuntime) {
     let mut out = rt.stdout();
     let mut err = rt.stderr();
     let mut input = rt.stdin();
-    match asked_for(&rt, &input, &mut err, "judge") {
+    match asked_for(&rt, &input, &mut err, b"judge") {
         Some(Wish::Help) => say(&mut out, HELP),
         Some(Wish::Input) => pump(&mut input, &mut out, &mut err, b"", WordsTo::Errors),
         Some(Wish::Files) => each(&rt, &mut out, &mut err),

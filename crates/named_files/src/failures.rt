@@ -1,4 +1,6 @@
 // Why a word or its file can't be had, as the system says it.
+ghost use Rattle.std.specs.Prelude.{◌≡◌, ◌≤◌, length, take};
+
 use crate::say;
 use arrayvec::ArrayString;
 use std::error::Error;
@@ -46,12 +48,22 @@ impl fmt::Display for Failure {
 }
 
 // The library puts the system's number behind an error's text, as in `No such file or directory (os error 2)`.
-fn without_number(text: &str) -> &str {
-    text.rsplit_once(" (").map_or(text, |(why, _)| why)
+fn without_number(text: &str) -> &str
+    ensures within { length result.now ≤ length text.now }
+    ensures front { result.now ≡ take (length result.now) text.now }
+{
+    match text.rsplit_once(" (") {
+        Some((why, _)) => why,
+        None => text,
+    }
 }
 
 // What can't be had goes before it as bytes, since it may be no text.
 pub fn say_failure(to: &mut impl Write, what: &[u8], failure: &Failure) {
+    let mut why = ArrayString::<TEXT_ROOM>::new();
+    let _ = fmt::Write::write(&mut why, failure);
     say(to, what);
-    let _ = writeln!(to, ": {failure}");
+    say(to, b": ");
+    say(to, why.as_str().as_bytes());
+    say(to, b"\n");
 }

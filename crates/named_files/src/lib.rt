@@ -5,11 +5,13 @@
 mod failures;
 mod words;
 
-ghost use Rattle.std.specs.Prelude.{◌≡◌, IfSome};
+ghost use Rattle.std.specs.Prelude.{◌≡◌, ◌≤◌, IfSome};
+ghost use Rattle.arrayvec.specs.ArrayVec.{array_vec_len};
 
 pub use crate::failures::Failure;
 use crate::failures::say_failure;
-pub use crate::words::{Word, Words};
+pub use crate::words::{Word, Words, word};
+use arrayvec::ArrayVec;
 use std::fs::File;
 use std::io::{IsTerminal, Write};
 use std::rt::{Env, Files};
@@ -24,10 +26,11 @@ pub enum Wish {
     Files,
 }
 
-fn refuse(to: &mut impl Write, program: &str, word: &[u8]) {
-    let _ = write!(to, "{program}: it has no option ");
+fn refuse(to: &mut impl Write, program: &[u8], word: &[u8]) {
+    say(to, program);
+    say(to, b": it has no option ");
     say(to, word);
-    let _ = writeln!(to, ": --help says what it takes");
+    say(to, b": --help says what it takes\n");
 }
 
 // What can't be written is passed over.
@@ -36,11 +39,12 @@ pub fn say(to: &mut impl Write, text: &[u8]) {
 }
 
 // Somebody at a terminal would else wait for a program that waits for him.
-fn say_what_it_waits_for(input: &impl IsTerminal, to: &mut impl Write, program: &str) {
+fn say_what_it_waits_for(input: &impl IsTerminal, to: &mut impl Write, program: &[u8]) {
     if input.is_terminal() {
-        let _ = writeln!(
+        say(to, program);
+        say(
             to,
-            "{program}: waits for a trace on standard input, which Ctrl-D ends"
+            b": waits for a trace on standard input, which Ctrl-D ends\n",
         );
     }
 }
@@ -50,14 +54,14 @@ pub fn asked_for(
     rt: &impl Env,
     input: &impl IsTerminal,
     to: &mut impl Write,
-    program: &str,
+    program: &[u8],
 ) -> Option<Wish> {
     let mut wish = Wish::Input;
     for word in Words::of(rt) {
         let word = match word {
             Ok(word) => word,
             Err(failure) => {
-                say_failure(to, program.as_bytes(), &failure);
+                say_failure(to, program, &failure);
                 return None;
             }
         };
@@ -78,24 +82,25 @@ pub fn asked_for(
 
 // A file, and the word that names it.
 #[derive(Drop)]
-pub struct Named<F: Drop> {
+pub struct Named<F: Drop, const ROOM: usize> {
     pub file: F,
-    pub name: Word,
+    pub name: ArrayVec<u8, ROOM>,
 }
 
 // The file that a word names, where it can be opened; else that is told, of a word that can't be had as of what it is `called`.
-pub fn open_named<R: Files>(
+pub fn open_named<R: Files, const ROOM: usize>(
     rt: &R,
     to: &mut impl Write,
-    word: Result<Word, Failure>,
-    called: &str,
-) -> Option<Named<R::File>>
-    ensures { IfSome result (λ named. word ≡ Ok named.name) }
+    word: Result<ArrayVec<u8, ROOM>, Failure>,
+    called: &[u8],
+) -> Option<Named<R::File, ROOM>>
+    ensures name { IfSome result (λ named. word.entry ≡ Ok named.name) }
+    ensures within { IfSome result (λ named. array_vec_len named.name ≤ ROOM) }
 {
     let name = match word {
         Ok(name) => name,
         Err(failure) => {
-            say_failure(to, called.as_bytes(), &failure);
+            say_failure(to, called, &failure);
             return None;
         }
     };

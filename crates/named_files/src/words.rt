@@ -1,6 +1,8 @@
 // The words behind a program's name, one after the other.
-ghost use Rattle.std.specs.Prelude.{◌≡◌, ◌-◌};
+ghost use Rattle.std.specs.Prelude.{◌≡◌, ◌-◌, ◌≤◌, IfSome, IfOk, IfErr};
 ghost use Rattle.std.specs.Iterator.{at_most};
+ghost use Rattle.arrayvec.specs.ArrayVec.{array_vec_len};
+ghost use Rattle.named_files.specs.declared.failures.Failure.TheVariants.{TooLong};
 
 use crate::{Failure, NAME_ROOM};
 use arrayvec::ArrayVec;
@@ -29,11 +31,26 @@ impl<'a, R: Env> Words<'a, R> {
     }
 }
 
-fn word(rt: &impl Env, i: usize) -> Result<Word, FillError> {
-    let mut word = Word::from([0; NAME_ROOM]);
+fn filled<const ROOM: usize>(rt: &impl Env, i: usize) -> Result<ArrayVec<u8, ROOM>, FillError> {
+    let mut word = ArrayVec::from([0; ROOM]);
     let length = rt.arg(i, word.as_mut_slice())?;
     word.truncate(length);
     Ok(word)
+}
+
+// Word `i`, where there is one; the room is of any length.
+pub fn word<const ROOM: usize>(
+    rt: &impl Env,
+    i: usize,
+) -> Option<Result<ArrayVec<u8, ROOM>, Failure>>
+    ensures within { IfSome result (λ word. IfOk word (λ bytes. array_vec_len bytes ≤ ROOM)) }
+    ensures too_long { IfSome result (λ word. IfErr word (λ failure. failure ≡ TooLong)) }
+{
+    match filled(rt, i) {
+        Ok(word) => Some(Ok(word)),
+        Err(FillError::TooLong) => Some(Err(Failure::TooLong)),
+        Err(FillError::NotPresent) => None,
+    }
 }
 
 impl<'a, R: Env> Iterator for Words<'a, R> {
@@ -43,10 +60,6 @@ impl<'a, R: Env> Iterator for Words<'a, R> {
 
     fn next(&mut self) -> Option<Result<Word, Failure>> {
         let i = self.places.next()?;
-        match word(self.rt, i) {
-            Ok(word) => Some(Ok(word)),
-            Err(FillError::TooLong) => Some(Err(Failure::TooLong)),
-            Err(FillError::NotPresent) => None,
-        }
+        word(self.rt, i)
     }
 }

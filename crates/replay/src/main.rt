@@ -12,7 +12,7 @@ fn main(rt: HostRuntime) {
     let mut out = rt.stdout();
     let mut err = rt.stderr();
     let mut input = rt.stdin();
-    match asked_for(&rt, &input, &mut err, "replay") {
+    match asked_for(&rt, &input, &mut err, b"replay") {
         Some(Wish::Help) => say(&mut out, HELP),
         Some(Wish::Input) => pump(&rt, &mut input, &mut out, &mut err, Prints::Trace),
         Some(Wish::Files) => pump_each(&rt, &mut out, &mut err, Prints::Trace, Before::Nothing),

@@ -21,7 +21,7 @@ fn one<R: Env + Files>(
     prints: Prints,
     before: Before,
 ) {
-    let Some(mut named) = open_named(rt, err, word, "a file's name") else {
+    let Some(mut named) = open_named(rt, err, word, b"a file's name") else {
         return;
     };
     if before == Before::Name {

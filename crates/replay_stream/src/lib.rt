@@ -7,8 +7,10 @@ mod run;
 ghost use Rattle.std.specs.Prelude.{◌+◌, ◌≤◌};
 
 use crate::run::Run;
+use arrayvec::ArrayString;
 use named_files::{NAME_ROOM, say};
 use std::fmt;
+use std::fmt::Write as _;
 use std::io::{Read, Write};
 use std::rt::Env;
 
@@ -39,13 +41,18 @@ impl fmt::Display for Failure {
 // How many bytes a trace may have, 2^63.
 const MOST_BYTES: u64 = 0x8000_0000_0000_0000;
 
-// To standard error, by the name that the program was called by.
+// Why a run ends is shorter.
+const TEXT_ROOM: usize = 64;
+
+// To standard error, by the name that the program was called by. The rest of the line is one write, so that no other program's line comes into it.
 fn complain(rt: &impl Env, err: &mut impl Write, failure: Failure) {
     let mut name = [0u8; NAME_ROOM];
     if let Ok(n) = rt.arg(0, &mut name) {
         say(err, &name[..n]);
     }
-    let _ = writeln!(err, ": {failure}");
+    let mut why = ArrayString::<TEXT_ROOM>::new();
+    let _ = writeln!(why, ": {failure}");
+    say(err, why.as_str().as_bytes());
 }
 
 // From an open file to standard output. `err` is standard error.

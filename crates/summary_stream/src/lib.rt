@@ -12,6 +12,7 @@ use crate::reader::Reader;
 use crate::report::put_screen;
 use arrayvec::ArrayString;
 use std::fmt;
+use std::fmt::Write as _;
 use std::io::{Read, Write};
 
 // How many bytes a trace may have, 2^63.
@@ -19,6 +20,9 @@ const MOST_BYTES: u64 = 0x8000_0000_0000_0000;
 
 // A screen is far below it: a line for each of at most 84 answers and 128 buffers.
 const SCREEN_ROOM: usize = 65536;
+
+// The line that says why no summary is printed is shorter.
+const LINE_ROOM: usize = 64;
 
 // Why no summary is printed.
 #[derive(Clone, Copy)]
@@ -38,10 +42,17 @@ impl fmt::Display for Failure {
     }
 }
 
+// In one write, so that no other program's line comes into it.
+fn complain(err: &mut impl Write, failure: Failure) {
+    let mut line = ArrayString::<LINE_ROOM>::new();
+    let _ = writeln!(line, "summary: {failure}");
+    let _ = err.write_all(line.as_str().as_bytes());
+}
+
 // From an open file to standard output. `err` is standard error.
 pub fn pump(input: &mut impl Read, to: &mut impl Write, err: &mut impl Write) {
     if let Err(failure) = summarized(input, to) {
-        let _ = writeln!(err, "summary: {failure}");
+        complain(err, failure);
     }
 }
 
