@@ -35,7 +35,7 @@ module _ (s : State) (a n : ℕ) where
   unfolding whole_pages pages
   whole-is = refl
 
-  credible-is : tests_credible s a n ≡ credible s.run.page (reservations_in s.reservations.items) a n
+  pub credible-is : tests_credible s a n ≡ credible s.run.page (reservations_in s.reservations.items) a n
   unfolding credible
   credible-is =
       ap (λ b. not (eqb a 0) && eqb (a % s.run.page) 0 && leb (a + n) (2 ^ 63) && b)

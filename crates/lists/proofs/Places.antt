@@ -53,6 +53,9 @@ module _ {ℓ} {A : Type ℓ} where
   drop_remove zero (x ∷ l) = refl
   drop_remove (suc i) (x ∷ l) = drop_remove i l
 
+  pub drop-remove_at : (i : ℕ) (l : List A) → drop i (remove_at i l) ≡ drop (i + 1) l
+  drop-remove_at i l = rw add-one (drop_remove i l)
+
   pub get_or-remove_at-before : (l : List A) (i j : ℕ) (d : A) → j < i → get_or (remove_at i l) j d ≡ get_or l j d
   get_or-remove_at-before [] i j d h = refl
   get_or-remove_at-before (x ∷ l) zero j d h = absurd (omega arith)

@@ -12,14 +12,14 @@ use borrow.Author.Tests.{lt-ltb, le-ltb, eq-eqb, ne_eqb}
 use Rattle.manager_rules.specs.Values.{BYTES}
 use Rattle.manager_rules.specs.Sizes.{unfit, smaller, whole, rounded, request}
 
-rounded_even : (page n : ℕ) → n % page ≡ 0 → rounded page n ≡ n
+pub rounded_even : (page n : ℕ) → n % page ≡ 0 → rounded page n ≡ n
 rounded_even page n e = rw (eq-eqb (n % page) 0 e) refl
 
-rounded-more : (page n : ℕ) → (n % page ≡ 0 → ⊥) → rounded page n ≡ n + (page - n % page)
+pub rounded-more : (page n : ℕ) → (n % page ≡ 0 → ⊥) → rounded page n ≡ n + (page - n % page)
 rounded-more page n e = rw (ne_eqb (n % page) 0 e) refl
 
 -- a page size of 0 leaves a size as it is
-rounded-none : (page n : ℕ) → page ≡ 0 → rounded page n ≡ n
+pub rounded-none : (page n : ℕ) → page ≡ 0 → rounded page n ≡ n
 rounded-none page n e = rw e (go (eqb (n % 0) 0))
   where
     go : (b : Bool) → cond b n (n + (0 - n % 0)) ≡ n

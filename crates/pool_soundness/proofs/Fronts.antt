@@ -24,7 +24,7 @@ module _ {A : Type 0} (key : A → ℕ) where
   ascends_rest b x (y ∷ l) a = (omega arith, a.1.1)
 
   -- the least of all, and the first of equal ones, comes first
-  comes-first : (y : A) (l m : List A) → All (λ x. key y < key x) l → All (λ x. key y ≤ key x) m → sorted key (l ++ y ∷ m) ≡ y ∷ sorted key (l ++ m)
+  pub comes-first : (y : A) (l m : List A) → All (λ x. key y < key x) l → All (λ x. key y ≤ key x) m → sorted key (l ++ y ∷ m) ≡ y ∷ sorted key (l ++ m)
   comes-first y [] m a b = put_first key y (sorted key m) (ascends-from (key y) 0 (sorted key m) (sorted-ascends key m) (all-sorted key (λ x. key y ≤ key x) m b))
   comes-first y (x ∷ l) m a b = ap (put key x) (comes-first y l m a.1 b) ∙ rw (lt-leb (key x) (key y) a.0)
 
@@ -34,14 +34,14 @@ all_from [] a = tt
 all_from (h ∷ l) a = (omega arith, ascends_above start h.from l a.1)
 
 module _ (m : ℕ) (l : List Range) (a : Ascends start 0 l) where
-  not-below : m ≤ from_of l → All (λ h. m ≤ h.from) l
+  pub not-below : m ≤ from_of l → All (λ h. m ≤ h.from) l
   not-below p = all_implies (λ h. from_of l ≤ h.from) (λ h. m ≤ h.from) (λ h q. omega arith) l (all_from l a)
 
-  above : m < from_of l → All (λ h. m < h.from) l
+  pub above : m < from_of l → All (λ h. m < h.from) l
   above p = all_implies (λ h. from_of l ≤ h.from) (λ h. m < h.from) (λ h q. omega arith) l (all_from l a)
 
 -- what is strictly above something high is high
-high : (l : List Range) → All (λ h. highest < h.from) l → All High l
+pub high : (l : List Range) → All (λ h. highest < h.from) l → All High l
 high l = all_implies (λ h. highest < h.from) High (λ h q. omega arith) l
 
 -- what is left of a list after its first is in order too

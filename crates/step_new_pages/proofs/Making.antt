@@ -79,10 +79,10 @@ making-begins {g} {h} {p} {o} {count} {d = d} w z =
 
 module _ {p : ℕ} {o : Room} {count : ℕ} {d : Driver} {g : Pages} {h : Holes} {left a : ℕ} {d' : Driver} {active : Pages} {h' : Holes}
     (w : Making p o count d g h left a d' active h') where
-  range-ends : o.start.0 + o.size ≤ END
+  pub range-ends : o.start.0 + o.size ≤ END
   range-ends = sound-range w.taken.sound o.start.0 o.size w.taken.size.positive (λ x. omega arith)
 
-  new-few : length (new_pages (room_of o) a (pages_of active)) + left ≤ count
+  pub new-few : length (new_pages (room_of o) a (pages_of active)) + left ≤ count
   new-few =
       let within : a ≤ o.start.0 + o.size = omega (arith, w.taken.fits) in
       omega (arith, new-held (room_of o) a (pages_of active) within, w.few)
@@ -104,7 +104,7 @@ module _ {p : ℕ} {o : Room} {count : ℕ} {d : Driver} {g : Pages} {h : Holes}
         omega (arith, suc-mul (left - 1) p, range-ends, w.taken.fits)
 
     -- the call ends with one driver call more or two, both tables as they are
-    making-stops : {f : Outcome} {d'' : Driver} → Lent d' d'' → d''.made ≤ d'.made + 2 →
+    pub making-stops : {f : Outcome} {d'' : Driver} → Lent d' d'' → d''.made ≤ d'.made + 2 →
         ((t : Tables) → t.fields.page ≡ p →
         Ran (make_pages left (room_of o) a) d.answers.now (stands d' (paging active h' t)) (ends f) (stands d'' (paging active h' t))) →
         MakesPages count p o d g h (Err f) d'' active h'

@@ -32,18 +32,18 @@ use Rattle.step_new_room.specs.Promises.{Insertable, InsertsNew, given}
 
 -- the access of the pages made ended, or the range was inserted
 module _ {xs : List ℕ} {s u : Point} (o : Taken) (lacks : 0 < o.missing) where
-  access-stops : {x : Outcome} → Ran (must (access o.start o.missing)) xs s (ends x) u → Ran (insert_new o) xs s (ends x) u
+  pub access-stops : {x : Outcome} → Ran (must (access o.start o.missing)) xs s (ends x) u → Ran (insert_new o) xs s (ends x) u
   unfolding insert_new
   access-stops r = passed _ (ne_eqb o.missing 0 (λ e. omega arith)) (stop _ r)
 
-  inserts_as : {v : Point} → Ran (must (access o.start o.missing)) xs s (on tt) u → (e : Ending FreeRegion) →
+  pub inserts_as : {v : Point} → Ran (must (access o.start o.missing)) xs s (on tt) u → (e : Ending FreeRegion) →
       Ran (insert_free o.start o.missing o.stream) xs u e v → Ran (insert_new o) xs s (given e) v
   unfolding insert_new
   inserts_as r (on q) i = passed _ (ne_eqb o.missing 0 (λ e. omega arith)) (next _ r (next _ i gave))
   inserts_as r (ends x) i = passed _ (ne_eqb o.missing 0 (λ e. omega arith)) (next _ r (stop _ i))
 
 -- at most one id is spent, however it ended
-counts_as : {xs : List ℕ} {u v : Point} (a n s : ℕ) (e : Ending FreeRegion) → Ran (insert_free a n s) xs u e v →
+pub counts_as : {xs : List ℕ} {u v : Point} (a n s : ℕ) (e : Ending FreeRegion) → Ran (insert_free a n s) xs u e v →
     v.tables.fields.counter ≤ u.tables.fields.counter + 1
 counts_as {u = u} a n s (on r) i = holds-ran (insert-counts a n s u.tables.fields.counter) i refl
 counts_as {u = u} a n s (ends x) i = holds-ran (insert-counts a n s u.tables.fields.counter) i refl

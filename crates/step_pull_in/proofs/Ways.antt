@@ -81,7 +81,7 @@ module _ {o : Room} {made : Made Address} {lacks : ℕ} {p : Pool} (k : Fillable
   most : k.spans ≤ SPANS
   most = spare-most k.lost k.rest p.page lacks k.spans k.keep others (room_of o) k.spare
 
-  few-pulled : length (pull_order o.stream others) ≤ SPANS
+  pub few-pulled : length (pull_order o.stream others) ≤ SPANS
   few-pulled = omega (arith, k.due.zombies)
 
   pub pullable : Pullable lacks (pull_order o.stream others) p.free p.zombies
@@ -146,7 +146,7 @@ module _ {o : Room} {made : Made Address} {lacks : ℕ} {p : Pool} (k : Fillable
       pages-movable =
           record { pages = k.kept.pages; lost = k.lost; hand = hand; spans = SPANS - 1; around = tables_of parted; movable = movable }
 
-      few-moved : length (pages_in p.page zs) ≤ PAGES
+      pub few-moved : length (pages_in p.page zs) ≤ PAGES
       few-moved = omega (arith, moved-most k.lost hand p.page to (SPANS - 1) (tables_of parted).free zs (tables_of parted) movable, movable.few.pages)
 
       pub room_for-move : RoomFor pull_in_calls d → RoomFor (length (pages_in p.page zs)) d₁
@@ -170,7 +170,7 @@ module _ {o : Room} {made : Made Address} {lacks : ℕ} {p : Pool} (k : Fillable
           abbrev moved : Pool
           moved = leaving f z g p.counter p
 
-          kept-moved : KeptPool moved
+          pub kept-moved : KeptPool moved
           kept-moved = record { free = w.free; live = k.kept.live; holes = k.kept.holes; zombies = w.zombies; pages = v.pages; roots = k.kept.roots }
 
           pub room_for-access : RoomFor pull_in_calls d → RoomFor 2 d₂

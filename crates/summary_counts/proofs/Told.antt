@@ -35,16 +35,16 @@ came-on (some (breaks rule)) k j e = let z : ◌≡◌ {A = ℕ} 0 1 = cc in abs
 came-on (some (passes which)) k j e = let z : ◌≡◌ {A = ℕ} 0 1 = cc in absurd (omega arith)
 
 -- the state behind a line that the judge took
-known_on : (s z : State) (l : Line) → on (judge_of z) ≡ judged (said l.kind) (judge_of s) l → (h : List Line) → judge_of s ≡ known h → judge_of z ≡ known (l ∷ h)
+pub known_on : (s z : State) (l : Line) → on (judge_of z) ≡ judged (said l.kind) (judge_of s) l → (h : List Line) → judge_of s ≡ known h → judge_of z ≡ known (l ∷ h)
 known_on s z l e h k =
     came-on (fault_of h l) (known (l ∷ h)) (judge_of z) (e ∙ ap (λ j. judged (said l.kind) j l) k ∙ step_is h l)
 
 module _ (s : State) (h : List Line) (k : judge_of s ≡ known h) where
-  asked_is : s.run.asked ≡ call h
+  pub asked_is : s.run.asked ≡ call h
   unfolding judge_of
   asked_is = ap (λ j. j.run.asked) k
 
-  live-is : capped (sum (λ b. b.size) (live_in s.live.items)) ≡ live_bytes h
+  pub live-is : capped (sum (λ b. b.size) (live_in s.live.items)) ≡ live_bytes h
   unfolding judge_of
   live-is = ap (λ j. capped (sum (λ b. b.size) j.live)) k ∙ ap capped (sum-map plain (λ b. b.size) (live h))
 
@@ -56,12 +56,12 @@ module _ (s : State) (h : List Line) (k : judge_of s ≡ known h) where
   unfolding judge_of
   mapped_many = sym (length-in page_of s.mapped.items) ∙ ap (λ j. length j.mapped) k ∙ sym (length-mapped plain_page (mapped h) _ refl)
 
-  mapped-is : capped (s.run.page * length s.mapped.items) ≡ mapped_bytes h
+  pub mapped-is : capped (s.run.page * length s.mapped.items) ≡ mapped_bytes h
   unfolding judge_of
   mapped-is = λ i. capped (ap (λ j. j.run.page) k i * mapped_many i)
 
   -- the hand-overs have room where the live buffers have
-  handed-few : length s.live.items ≤ most_live → length (hand_overs h) ≤ most_live
+  pub handed-few : length s.live.items ≤ most_live → length (hand_overs h) ≤ most_live
   handed-few q = omega (arith, live_many, as_many h)
 
 -- a line that the judge takes: what is told of the lines so far is told of them with this one more
