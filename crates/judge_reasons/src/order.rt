@@ -8,8 +8,8 @@ use crate::{Reason, Seen};
 use trace::Line;
 
 // Behind the open.
-fn of_run(s: Seen, l: Line) -> Reason
-    ensures { IsTrue (judge_seen s) l result }
+fn of_run(s: &Seen, l: Line) -> Reason
+    ensures { IsTrue (judge_seen s.now) l result }
 {
     let kind = l.kind;
     let waiting = s.run.waiting;
@@ -42,8 +42,8 @@ fn of_run(s: Seen, l: Line) -> Reason
 }
 
 // R0, but for malformed lines
-pub fn of_order(s: Seen, l: Line) -> Reason
-    ensures { IsTrue (judge_seen s) l result }
+pub fn of_order(s: &Seen, l: Line) -> Reason
+    ensures { IsTrue (judge_seen s.now) l result }
 {
     let opened = s.run.opened;
     if opened {

@@ -4,16 +4,16 @@
 ghost use Rattle.judge_reasons.specs.Reasons.{IsTrue};
 ghost use Rattle.judge_reasons.specs.Seen.{judge_seen};
 
-use crate::{Reason, Seen};
 use crate::searches::{find_twins, first_unmapped, is_mapped_to, is_of_size};
+use crate::{Reason, Seen};
 use judge_tables::{is_clear, is_in_live, is_inside, is_mapped};
 use trace::Line;
 
 const LAST_ADDRESS: u64 = 0xffff_ffff_ffff_ffff;
 
 // A range of whole pages: the first page that is not mapped.
-fn of_pages(s: Seen, l: Line) -> Reason
-    ensures { IsTrue (judge_seen s) l result }
+fn of_pages(s: &Seen, l: Line) -> Reason
+    ensures { IsTrue (judge_seen s.now) l result }
 {
     let page = s.run.page;
     let address = l.first;
@@ -38,8 +38,8 @@ fn of_pages(s: Seen, l: Line) -> Reason
 }
 
 // R6: a range that is not of mapped pages.
-pub fn of_range(s: Seen, l: Line) -> Reason
-    ensures { IsTrue (judge_seen s) l result }
+pub fn of_range(s: &Seen, l: Line) -> Reason
+    ensures { IsTrue (judge_seen s.now) l result }
 {
     let page = s.run.page;
     let address = l.first;
@@ -60,8 +60,8 @@ pub fn of_range(s: Seen, l: Line) -> Reason
 }
 
 // A live buffer has an address in the range.
-fn of_live(s: Seen, l: Line) -> Reason
-    ensures { IsTrue (judge_seen s) l result }
+fn of_live(s: &Seen, l: Line) -> Reason
+    ensures { IsTrue (judge_seen s.now) l result }
 {
     let address = l.first;
     let bytes = l.second;
@@ -81,8 +81,8 @@ fn of_live(s: Seen, l: Line) -> Reason
 }
 
 // R4
-pub fn of_unmap(s: Seen, l: Line) -> Reason
-    ensures { IsTrue (judge_seen s) l result }
+pub fn of_unmap(s: &Seen, l: Line) -> Reason
+    ensures { IsTrue (judge_seen s.now) l result }
 {
     let r = of_range(s, l);
     if let Reason::Unexplained = r {
@@ -92,8 +92,8 @@ pub fn of_unmap(s: Seen, l: Line) -> Reason
 }
 
 // A page at `at` in the range, and another one of its handle at `other`, there or in a live buffer.
-fn of_twins(s: Seen, l: Line, handle: u64, at: u64, other: u64) -> Reason
-    ensures { IsTrue (judge_seen s) l result }
+fn of_twins(s: &Seen, l: Line, handle: u64, at: u64, other: u64) -> Reason
+    ensures { IsTrue (judge_seen s.now) l result }
 {
     if at != other {
         if is_inside(l.first, l.second, at) {
@@ -113,8 +113,8 @@ fn of_twins(s: Seen, l: Line, handle: u64, at: u64, other: u64) -> Reason
 }
 
 // A handle under two pages.
-fn of_handles(s: Seen, l: Line) -> Reason
-    ensures { IsTrue (judge_seen s) l result }
+fn of_handles(s: &Seen, l: Line) -> Reason
+    ensures { IsTrue (judge_seen s.now) l result }
 {
     let Some((p, twin)) = find_twins(s, l.first, l.second) else {
         return Reason::Unexplained;
@@ -123,8 +123,8 @@ fn of_handles(s: Seen, l: Line) -> Reason
 }
 
 // R7
-pub fn of_malloc(s: Seen, l: Line) -> Reason
-    ensures { IsTrue (judge_seen s) l result }
+pub fn of_malloc(s: &Seen, l: Line) -> Reason
+    ensures { IsTrue (judge_seen s.now) l result }
 {
     let asked = s.run.asked.first;
     let given = l.second;

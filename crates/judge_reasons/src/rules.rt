@@ -4,8 +4,8 @@
 ghost use Rattle.judge_reasons.specs.Reasons.{IsTrue};
 ghost use Rattle.judge_reasons.specs.Seen.{judge_seen};
 
-use crate::{Reason, Seen};
 use crate::searches::{is_mapped_to, is_of_size, is_start};
+use crate::{Reason, Seen};
 use judge_tables::{
     has_reservation, is_clear, is_held, is_inside, is_live, is_mapped, is_reserved,
 };
@@ -15,8 +15,8 @@ use trace::Line;
 const END: u64 = 0x8000_0000_0000_0000;
 
 // R1: a reservation that is held lies across the new one, or the size is not that of the open.
-fn of_neighbours(s: Seen, l: Line) -> Reason
-    ensures { IsTrue (judge_seen s) l result }
+fn of_neighbours(s: &Seen, l: Line) -> Reason
+    ensures { IsTrue (judge_seen s.now) l result }
 {
     let base = l.first;
     let size = l.second;
@@ -40,8 +40,8 @@ fn of_neighbours(s: Seen, l: Line) -> Reason
 }
 
 // R1
-pub fn of_reserve(s: Seen, l: Line) -> Reason
-    ensures { IsTrue (judge_seen s) l result }
+pub fn of_reserve(s: &Seen, l: Line) -> Reason
+    ensures { IsTrue (judge_seen s.now) l result }
 {
     let base = l.first;
     let size = l.second;
@@ -68,8 +68,8 @@ pub fn of_reserve(s: Seen, l: Line) -> Reason
 }
 
 // R2
-pub fn of_create(s: Seen, l: Line) -> Reason
-    ensures { IsTrue (judge_seen s) l result }
+pub fn of_create(s: &Seen, l: Line) -> Reason
+    ensures { IsTrue (judge_seen s.now) l result }
 {
     let handle = l.first;
     if is_held(s.held, handle) {
@@ -79,8 +79,8 @@ pub fn of_create(s: Seen, l: Line) -> Reason
 }
 
 // R3: of a page in a reservation.
-fn of_page(s: Seen, l: Line) -> Reason
-    ensures { IsTrue (judge_seen s) l result }
+fn of_page(s: &Seen, l: Line) -> Reason
+    ensures { IsTrue (judge_seen s.now) l result }
 {
     let address = l.first;
     let handle = l.second;
@@ -97,8 +97,8 @@ fn of_page(s: Seen, l: Line) -> Reason
 }
 
 // R3
-pub fn of_map(s: Seen, l: Line) -> Reason
-    ensures { IsTrue (judge_seen s) l result }
+pub fn of_map(s: &Seen, l: Line) -> Reason
+    ensures { IsTrue (judge_seen s.now) l result }
 {
     let page = s.run.page;
     let address = l.first;
@@ -115,8 +115,8 @@ pub fn of_map(s: Seen, l: Line) -> Reason
 }
 
 // R5
-pub fn of_release(s: Seen, l: Line) -> Reason
-    ensures { IsTrue (judge_seen s) l result }
+pub fn of_release(s: &Seen, l: Line) -> Reason
+    ensures { IsTrue (judge_seen s.now) l result }
 {
     let handle = l.first;
     if !is_held(s.held, handle) {
@@ -132,8 +132,8 @@ pub fn of_release(s: Seen, l: Line) -> Reason
 }
 
 // R8
-pub fn of_free(s: Seen, l: Line) -> Reason
-    ensures { IsTrue (judge_seen s) l result }
+pub fn of_free(s: &Seen, l: Line) -> Reason
+    ensures { IsTrue (judge_seen s.now) l result }
 {
     let address = s.run.asked.first;
     let size = l.first;
@@ -160,8 +160,8 @@ pub fn of_free(s: Seen, l: Line) -> Reason
 }
 
 // R9
-pub fn of_event(s: Seen, l: Line) -> Reason
-    ensures { IsTrue (judge_seen s) l result }
+pub fn of_event(s: &Seen, l: Line) -> Reason
+    ensures { IsTrue (judge_seen s.now) l result }
 {
     let id = l.first;
     let Some(last) = s.last else {
@@ -180,8 +180,8 @@ pub fn of_event(s: Seen, l: Line) -> Reason
 }
 
 // R10
-pub fn of_giveback(s: Seen, l: Line) -> Reason
-    ensures { IsTrue (judge_seen s) l result }
+pub fn of_giveback(s: &Seen, l: Line) -> Reason
+    ensures { IsTrue (judge_seen s.now) l result }
 {
     let base = l.first;
     let size = l.second;

@@ -43,6 +43,7 @@ impl Clone for State {
 
     // The same was said.
     ghost is_clone = { λ s t. judge_of t ≡ judge_of s };
+
     ghost is_infallible = { λ _. ⊤ };
 
     fn clone(&self) -> Result<State, AllocError> {

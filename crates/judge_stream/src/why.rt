@@ -2,9 +2,7 @@
 ghost use Rattle.std.specs.Prelude.{◌+◌, ◌≤◌, length};
 ghost use Rattle.judge_reasons.specs.Texts.{most_text};
 
-use judge_reasons::{
-    Seen, form_of, put_empty, put_form, put_large, put_reason, put_within, why,
-};
+use judge_reasons::{Seen, form_of, put_empty, put_form, put_large, put_reason, put_within, why};
 use judge_rules::Verdict;
 use judge_steps::State;
 use trace::{Line, Reading};
@@ -36,7 +34,7 @@ impl Last<'_> {
         }
         match Line::read(self.line) {
             Reading::Malformed => put_form(out, at, n, form_of(self.line)),
-            Reading::Good(l) => put_reason(out, at, n, rule, why(Seen::of(state), l, rule)),
+            Reading::Good(l) => put_reason(out, at, n, rule, why(&Seen::of(state), l, rule)),
         }
     }
 
