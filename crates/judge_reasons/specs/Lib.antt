@@ -1,3 +1,5 @@
 pub mod Reasons
 pub mod Forms
 pub mod Tests
+pub mod Seen
+pub mod Texts

@@ -11,10 +11,14 @@ mod ranges;
 mod reasons;
 mod rules;
 mod searches;
+mod seen;
+mod texts;
 
 pub use forms::form_of;
 pub use printed::Words;
 pub use reasons::why;
+pub use seen::Seen;
+pub use texts::{put_empty, put_form, put_large, put_reason, put_within};
 
 // What is found against a line. The comments name the numbers.
 // kept: `Unexplained` is a reason too: what is promised of it is what is promised of each.

@@ -1,16 +1,15 @@
 // What a line is rejected for that stands where it may not: R0.
-#![tactic(auto, unfolding(crate::specs::Reasons::IsTrue, judge_steps::specs::State::judge_of))]
+#![tactic(auto, unfolding(crate::specs::Reasons::IsTrue, crate::specs::Seen::judge_seen))]
 
-ghost use Rattle.judge_steps.specs.State.{judge_of};
 ghost use Rattle.judge_reasons.specs.Reasons.{IsTrue};
+ghost use Rattle.judge_reasons.specs.Seen.{judge_seen};
 
-use crate::Reason;
-use judge_steps::State;
+use crate::{Reason, Seen};
 use trace::Line;
 
 // Behind the open.
-fn of_run(s: &State, l: Line) -> Reason
-    ensures { IsTrue (judge_of s.now) l result }
+fn of_run(s: &Seen, l: Line) -> Reason
+    ensures { IsTrue (judge_seen s.now) l result }
 {
     let kind = l.kind;
     let waiting = s.run.waiting;
@@ -43,8 +42,8 @@ fn of_run(s: &State, l: Line) -> Reason
 }
 
 // R0, but for malformed lines
-pub fn of_order(s: &State, l: Line) -> Reason
-    ensures { IsTrue (judge_of s.now) l result }
+pub fn of_order(s: &Seen, l: Line) -> Reason
+    ensures { IsTrue (judge_seen s.now) l result }
 {
     let opened = s.run.opened;
     if opened {

@@ -1,19 +1,18 @@
 // Why a line is rejected, by the rule that the verdict names.
-ghost use Rattle.judge_steps.specs.State.{judge_of};
 ghost use Rattle.judge_reasons.specs.Reasons.{IsTrue};
+ghost use Rattle.judge_reasons.specs.Seen.{judge_seen};
 
-use crate::Reason;
 use crate::order::of_order;
 use crate::ranges::{of_malloc, of_range, of_unmap};
 use crate::rules::{of_create, of_event, of_free, of_giveback, of_map, of_release, of_reserve};
+use crate::{Reason, Seen};
 use judge_rules::Verdict;
-use judge_steps::State;
 use trace::Line;
 
 // The state is the one that the line was judged by. Whatever is answered is true of it; where nothing is found, it is Unexplained.
 #[tactic(auto, unfolding(crate::specs::Reasons::IsTrue))]
-pub fn why(s: &State, l: Line, rule: u64) -> Reason
-    ensures { IsTrue (judge_of s.now) l result }
+pub fn why(s: &Seen, l: Line, rule: u64) -> Reason
+    ensures { IsTrue (judge_seen s.now) l result }
 {
     match rule {
         Verdict::R0 => of_order(s, l),

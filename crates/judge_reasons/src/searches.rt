@@ -2,7 +2,7 @@
 ghost use Rattle.std.specs.Prelude.{◌≡◌};
 ghost use Rattle.judge_reasons.specs.Tests.{maps_to, has_start, has_size};
 
-use judge_steps::State;
+use crate::Seen;
 use judge_tables::{Live, Page, is_in_buffers, is_inside, is_mapped};
 
 // The page at an address is mapped to this handle.
@@ -46,14 +46,14 @@ pub fn first_unmapped(mapped: &[Page], a: u64, page: u64, k: u64) -> u64 {
 }
 
 // Another page with the handle of p, among the n addresses from a on or in a live buffer.
-fn find_twin(s: &State, a: u64, n: u64, p: Page) -> Option<Page> {
+fn find_twin(s: &Seen, a: u64, n: u64, p: Page) -> Option<Page> {
     s.mapped.iter().copied().find(|q| q.handle == p.handle
         && q.at != p.at
-        && is_in_buffers(&s.live, a, n, q.at))
+        && is_in_buffers(s.live, a, n, q.at))
 }
 
 // A page among the n addresses from a on that has such a twin, and the twin.
-pub fn find_twins(s: &State, a: u64, n: u64) -> Option<(Page, Page)> {
+pub fn find_twins(s: &Seen, a: u64, n: u64) -> Option<(Page, Page)> {
     for p in s.mapped.iter() {
         if is_inside(a, n, p.at) {
             if let Some(twin) = find_twin(s, a, n, *p) {

@@ -1,9 +1,11 @@
 -- A line's step by its kind: R0, then what a call line, a record or a result does to the state.
 use mathlib.Core.Path.{◌≡◌, refl, sym, ◌∙◌}
-use mathlib.Core.Bool.{true, false, and-false}
+use mathlib.Core.Bool.{true, false, and-false, cond}
 use mathlib.Core.Logic.{◌⊎◌, inl, inr}
 use Prim.Native.Nat.{ℕ, ◌≤◌}
 use borrow.Author.Tests.{eq-eqb, ne_eqb}
+use lib.Dec.{eqb}
+use Rattle.std.proofs.Common.{Err}
 use lib.ListN.{length, get_or-eq_default}
 use Rattle.words.specs.declared.Word.{Word}
 use Rattle.trace.specs.declared.Line.{Line}
@@ -14,7 +16,9 @@ use Rattle.judge_rules.specs.declared.Call.{Call}
 use Rattle.judge_rules.specs.declared.Call.TheVariants.{Open, Malloc, Free, Close}
 use Rattle.judge_rules.specs.declared.Run.{Run}
 use Rattle.judge_rules.specs.declared.Said.TheVariants.{Record, Call as Calls, Result, Aside, Unknown}
-use Rattle.judge_steps.specs.State.{starts_run, in_run, ends_run, between_runs}
+use Rattle.judge_steps.specs.State.{outcome_of, starts_run, in_run, ends_run, between_runs}
+use Rattle.judge_steps.specs.declared.Fault.{Fault}
+use Rattle.judge_steps.specs.declared.Fault.TheVariants.{Broken, Beyond}
 use Rattle.judge_steps.proofs.Stepping.{refused, passed}
 
 r0-call : (c : Call) (r : Run) (l : Line) → R0 (Calls c) r l ≡ starts_run c r l.first
@@ -53,6 +57,11 @@ module _ (s : Judge) (l : Line) where
   unfolding judged taken R0
   record_done w e f = rw (eq-eqb l.third 0 f) (passed 0 (in_run s.run) (recorded w (ended s.run.asked.call s) l.first l.second) e)
 
+  pub record_stands : (w : Word) → in_run s.run ≡ true →
+      cond (eqb l.third 0) (recorded w (ended s.run.asked.call s) l.first l.second) (on (ended s.run.asked.call s)) ≡ judged (Record w) s l
+  unfolding judged taken R0
+  record_stands w e = passed 0 (in_run s.run) _ e
+
   pub result-refused : ends_run s.run l ≡ false → broken 0 ≡ judged Result s l
   unfolding judged R0
   result-refused e = refused 0 (ends_run s.run l) _ e
@@ -78,3 +87,8 @@ pub said-none : (k : ℕ) → (k ≡ 0) ⊎ (length kinds ≤ k) → Unknown ≡
 unfolding said
 said-none k (inl e) = rw e
 said-none k (inr h) = sym (get_or-eq_default kinds Unknown h)
+
+-- what a refusal comes to is the same, whatever the state behind it
+pub same_refusal : (f : Fault) (i j : Judge) → outcome_of (Err f) i ≡ outcome_of (Err f) j
+same_refusal (Broken rule) i j = refl
+same_refusal (Beyond which) i j = refl

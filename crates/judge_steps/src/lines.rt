@@ -1,10 +1,11 @@
 // A line: whether a call, a record or a result may stand there, and what it says.
-ghost use Rattle.std.specs.Prelude.{◌≡◌, ◌<◌};
+ghost use Rattle.std.specs.Prelude.{◌≡◌, false, true, ◌<◌};
 ghost use Rattle.judge_rules.specs.Said.{said, if_open};
 ghost use Rattle.judge_rules.specs.Verdict.{start, ended};
+ghost use Rattle.judge_rules.specs.declared.Call.TheVariants.{Close};
 ghost use Rattle.judge_rules.specs.declared.Said.TheVariants.{Record, Call as Calls, Result as Results, Aside};
 ghost use Rattle.judge_steps.specs.State.{judge_of, run_on, starts_run, in_run, ends_run, between_runs};
-ghost use Rattle.judge_steps.specs.Promises.{Answers, Steps};
+ghost use Rattle.judge_steps.specs.Promises.{Answers, Stands, Steps, Stays};
 
 use crate::{Fault, State};
 use arrayvec::ArrayVec;
@@ -124,7 +125,8 @@ impl State {
     // A result of answer 0.
     fn on_answer(&mut self, a: u64, b: u64) -> Result<(), Fault>
         requires { 0 < self.old.run.page }
-        ensures { Answers self.old.run.asked.call self.old a b result self.new }
+        ensures does { Answers self.old.run.asked.call self.old a b result self.new }
+        ensures stays { Stays self.old result self.new }
     {
         match self.run.asked.call {
             Call::Open => Ok(()),
@@ -137,20 +139,21 @@ impl State {
         }
     }
 
-    // docs/RULES.md 8.7: no buffer is live after a record of a close.
-    fn end_live(&mut self)
-        ensures ended { judge_of self.new ≡ ended self.old.run.asked.call (judge_of self.old) }
-        ensures run { self.new.run ≡ self.old.run }
+    // docs/RULES.md 8.7: a record of a close ends the buffers that are live, where any are.
+    fn ends_live(&self) -> bool
+        ensures goes_on { result ≡ false → ended self.now.run.asked.call (judge_of self.now) ≡ judge_of self.now }
+        ensures ends { result ≡ true → self.now.run.asked.call ≡ Close }
     {
         match self.run.asked.call {
-            Call::Open | Call::Malloc | Call::Free => {}
-            Call::Close => self.live.clear(),
+            Call::Open | Call::Malloc | Call::Free => false,
+            Call::Close => !self.live.is_empty(),
         }
     }
 
     // A call line.
     fn step_call(&mut self, c: Call, l: Line) -> Result<(), Fault>
-        ensures { Steps (Calls c) self.old l result self.new }
+        ensures does { Steps (Calls c) self.old l result self.new }
+        ensures stays { Stays self.old result self.new }
     {
         if !starts_run(c, self.run, l.first) {
             return Err(Fault::Broken(Verdict::R0));
@@ -159,32 +162,55 @@ impl State {
         Ok(())
     }
 
-    // A record. A failed one has no rule but R0, and changes nothing else.
-    fn step_record(&mut self, word: Word, l: Line) -> Result<(), Fault>
-        ensures { Steps (Record word) self.old l result self.new }
+    // A record that may stand where it does. A failed one has no rule, and changes nothing.
+    fn on_standing(&mut self, word: Word, l: Line) -> Result<(), Fault>
+        requires { 0 < self.old.run.page }
+        ensures does { Stands word self.old l result self.new }
+        ensures stays { Stays self.old result self.new }
     {
-        if !in_run(self.run) {
-            return Err(Fault::Broken(Verdict::R0));
-        }
-        self.end_live();
         if l.third != 0 {
             return Ok(());
         }
         self.on_record(word, l.first, l.second)
     }
 
+    // A record.
+    fn step_record(&mut self, word: Word, l: Line) -> Result<(), Fault>
+        ensures does { Steps (Record word) self.old l result self.new }
+        ensures stays { Stays self.old result self.new }
+    {
+        if !in_run(self.run) {
+            return Err(Fault::Broken(Verdict::R0));
+        }
+        if !self.ends_live() {
+            return self.on_standing(word, l);
+        }
+        let live = self.live.take();
+        if let Err(fault) = self.on_standing(word, l) {
+            self.live = live;
+            return Err(fault);
+        }
+        Ok(())
+    }
+
     // A result.
     fn step_result(&mut self, l: Line) -> Result<(), Fault>
-        ensures { Steps Results self.old l result self.new }
+        ensures does { Steps Results self.old l result self.new }
+        ensures stays { Stays self.old result self.new }
     {
         if !ends_run(self.run, l) {
             return Err(Fault::Broken(Verdict::R0));
         }
+        let run = self.run;
         self.run.waiting = false;
         if l.third != 0 {
             return Ok(());
         }
-        self.on_answer(l.first, l.second)
+        if let Err(fault) = self.on_answer(l.first, l.second) {
+            self.run = run;
+            return Err(fault);
+        }
+        Ok(())
     }
 
     // A small buffer's line.
@@ -197,9 +223,10 @@ impl State {
         Ok(())
     }
 
-    // One line.
+    // One line. One that is refused, or too much, leaves the state as it was.
     pub fn step(&mut self, l: Line) -> Result<(), Fault>
-        ensures { Steps (said l.kind) self.old l result self.new }
+        ensures does { Steps (said l.kind) self.old l result self.new }
+        ensures stays { Stays self.old result self.new }
     {
         match said_of(l.kind) {
             Said::Record(word) => self.step_record(word, l),

@@ -2,7 +2,7 @@
 ghost use Rattle.std.specs.Prelude.{◌<◌};
 ghost use Rattle.words.specs.declared.Word.TheVariants.{Reserve, Create, Map, Access, Unmap, Release, Record as RecordEvent, Asked as AskedFor, Giveback};
 ghost use Rattle.judge_rules.specs.declared.Call.TheVariants.{Malloc, Free};
-ghost use Rattle.judge_steps.specs.Promises.{Records, Answers};
+ghost use Rattle.judge_steps.specs.Promises.{Records, Answers, Stays};
 
 use crate::{Fault, State};
 use judge_rules::Verdict;
@@ -12,7 +12,8 @@ use words::Word;
 impl State {
     fn on_reserve(&mut self, base: u64, size: u64) -> Result<(), Fault>
         requires { 0 < self.old.run.page }
-        ensures { Records Reserve self.old base size result self.new }
+        ensures does { Records Reserve self.old base size result self.new }
+        ensures stays { Stays self.old result self.new }
     {
         if !self.keeps_r1(base, size) {
             return Err(Fault::Broken(Verdict::R1));
@@ -25,7 +26,8 @@ impl State {
     }
 
     fn on_create(&mut self, handle: u64, bytes: u64) -> Result<(), Fault>
-        ensures { Records Create self.old handle bytes result self.new }
+        ensures does { Records Create self.old handle bytes result self.new }
+        ensures stays { Stays self.old result self.new }
     {
         if !self.keeps_r2(handle) {
             return Err(Fault::Broken(Verdict::R2));
@@ -39,7 +41,8 @@ impl State {
 
     fn on_map(&mut self, address: u64, handle: u64) -> Result<(), Fault>
         requires { 0 < self.old.run.page }
-        ensures { Records Map self.old address handle result self.new }
+        ensures does { Records Map self.old address handle result self.new }
+        ensures stays { Stays self.old result self.new }
     {
         if !self.keeps_r3(address, handle) {
             return Err(Fault::Broken(Verdict::R3));
@@ -66,7 +69,8 @@ impl State {
 
     fn on_unmap(&mut self, address: u64, bytes: u64) -> Result<(), Fault>
         requires { 0 < self.old.run.page }
-        ensures { Records Unmap self.old address bytes result self.new }
+        ensures does { Records Unmap self.old address bytes result self.new }
+        ensures stays { Stays self.old result self.new }
     {
         if !self.keeps_r4(address, bytes) {
             return Err(Fault::Broken(Verdict::R4));
@@ -76,7 +80,8 @@ impl State {
     }
 
     fn on_release(&mut self, handle: u64, zero: u64) -> Result<(), Fault>
-        ensures { Records Release self.old handle zero result self.new }
+        ensures does { Records Release self.old handle zero result self.new }
+        ensures stays { Stays self.old result self.new }
     {
         if !self.keeps_r5(handle) {
             return Err(Fault::Broken(Verdict::R5));
@@ -86,7 +91,8 @@ impl State {
     }
 
     fn on_event(&mut self, id: u64, stream: u64) -> Result<(), Fault>
-        ensures { Records RecordEvent self.old id stream result self.new }
+        ensures does { Records RecordEvent self.old id stream result self.new }
+        ensures stays { Stays self.old result self.new }
     {
         if !self.is_rising(id) {
             return Err(Fault::Broken(Verdict::R9));
@@ -105,7 +111,8 @@ impl State {
     }
 
     fn on_giveback(&mut self, base: u64, size: u64) -> Result<(), Fault>
-        ensures { Records Giveback self.old base size result self.new }
+        ensures does { Records Giveback self.old base size result self.new }
+        ensures stays { Stays self.old result self.new }
     {
         if !self.keeps_r10(base, size) {
             return Err(Fault::Broken(Verdict::R10));
@@ -116,7 +123,8 @@ impl State {
 
     pub(crate) fn on_malloc(&mut self, start: u64, size: u64) -> Result<(), Fault>
         requires { 0 < self.old.run.page }
-        ensures { Answers Malloc self.old start size result self.new }
+        ensures does { Answers Malloc self.old start size result self.new }
+        ensures stays { Stays self.old result self.new }
     {
         if !self.keeps_r7(start, size) {
             return Err(Fault::Broken(Verdict::R7));
@@ -134,7 +142,8 @@ impl State {
     }
 
     pub(crate) fn on_free(&mut self, size: u64, stream: u64) -> Result<(), Fault>
-        ensures { Answers Free self.old size stream result self.new }
+        ensures does { Answers Free self.old size stream result self.new }
+        ensures stays { Stays self.old result self.new }
     {
         if !self.keeps_r8(size, stream) {
             return Err(Fault::Broken(Verdict::R8));
@@ -147,7 +156,8 @@ impl State {
     // A record of code 0.
     pub(crate) fn on_record(&mut self, word: Word, a: u64, b: u64) -> Result<(), Fault>
         requires { 0 < self.old.run.page }
-        ensures { Records word self.old a b result self.new }
+        ensures does { Records word self.old a b result self.new }
+        ensures stays { Stays self.old result self.new }
     {
         match word {
             Word::Reserve => self.on_reserve(a, b),

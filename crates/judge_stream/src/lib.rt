@@ -15,7 +15,6 @@ use crate::lines::{Head, keep_under_way};
 use crate::why::Last;
 use arrayvec::ArrayVec;
 use judge_chunks::Progress;
-use judge_reasons::Words;
 use judge_rules::Verdict;
 use named_files::say;
 use std::io::{Read, Write};
@@ -97,18 +96,20 @@ fn end(
     };
     let v = p.finish();
     say_verdict(to, err, name, v);
-    let Some(words) = last.words(v, &p.state) else {
+    let mut out = [0u8; TEXT_ROOM];
+    let n = last.put(&mut out, 0, v, &p.state);
+    if n == 0 {
         return;
-    };
+    }
     match words_to {
-        WordsTo::Output => say_words(to, name, words),
-        WordsTo::Errors => say_words(err, name, words),
+        WordsTo::Output => say_words(to, name, &out[..n]),
+        WordsTo::Errors => say_words(err, name, &out[..n]),
     }
 }
 
-fn say_words(to: &mut impl Write, name: &[u8], words: Words) {
+fn say_words(to: &mut impl Write, name: &[u8], words: &[u8]) {
     say_name(to, name, b": ");
-    let _ = writeln!(to, "{words}");
+    say(to, words);
 }
 
 // Reads once and judges what came: how many bytes, 0 at the end of the input, or none where the read failed.

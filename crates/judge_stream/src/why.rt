@@ -1,5 +1,8 @@
 // Why the verdict is what it is.
-use judge_reasons::{Words, form_of, why};
+ghost use Rattle.std.specs.Prelude.{◌+◌, ◌≤◌, length};
+ghost use Rattle.judge_reasons.specs.Texts.{most_text};
+
+use judge_reasons::{Seen, form_of, put_empty, put_form, put_large, put_reason, put_within, why};
 use judge_rules::Verdict;
 use judge_steps::State;
 use trace::{Line, Reading};
@@ -19,25 +22,31 @@ impl Last<'_> {
         self.well && (self.line.is_empty() || self.lines < n && 1 < n - self.lines)
     }
 
-    fn rejected(&self, state: &State, n: u64, rule: u64) -> Words {
+    fn put_rejected(&self, out: &mut [u8], at: usize, state: &State, n: u64, rule: u64) -> usize
+        requires { at + most_text ≤ length out.old }
+        ensures { result ≤ at + most_text }
+    {
         if self.lacks(n) {
             if self.line.is_empty() && self.lines == 0 {
-                return Words::Empty;
+                return put_empty(out, at);
             }
-            return Words::Within;
+            return put_within(out, at);
         }
         match Line::read(self.line) {
-            Reading::Malformed => Words::Malformed(n, form_of(self.line)),
-            Reading::Good(l) => Words::Broken(n, rule, why(state, l, rule)),
+            Reading::Malformed => put_form(out, at, n, form_of(self.line)),
+            Reading::Good(l) => put_reason(out, at, n, rule, why(&Seen::of(state), l, rule)),
         }
     }
 
-    // The state is that behind the end of the input.
-    pub fn words(&self, v: Verdict, state: &State) -> Option<Words> {
+    // The words with their line feed, none where the trace is accepted. The state is that behind the end of the input.
+    pub fn put(&self, out: &mut [u8], at: usize, v: Verdict, state: &State) -> usize
+        requires { at + most_text ≤ length out.old }
+        ensures { result ≤ at + most_text }
+    {
         match v {
-            Verdict::Accepted => None,
-            Verdict::Rejected(n, rule) => Some(self.rejected(state, n, rule)),
-            Verdict::Large(n, which) => Some(Words::Beyond(n, which)),
+            Verdict::Accepted => at,
+            Verdict::Rejected(n, rule) => self.put_rejected(out, at, state, n, rule),
+            Verdict::Large(n, which) => put_large(out, at, n, which),
         }
     }
 }

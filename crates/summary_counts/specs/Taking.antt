@@ -38,10 +38,10 @@ pub record Told (s : Summary) (h : List Line) : Type 0 where
   pub handed : hand_overs_in s.handed ≡ hand_overs h
 
 -- a line comes to what the judge says of it, and where the judge takes it all is told of the lines with this one more; where not, the summary is left as it
--- was, but for the judge's own state.
+-- was.
 pub record Taking (s : Summary) (l : Line) (r : Result (Unit {0}) Fault) (s' : Summary) : Type 0 where
   pub lines : s'.counts.lines ≤ s.counts.lines + 1
   pub judged : step_of r s'.state ≡ judged (said l.kind) (judge_of s.state) l
   pub standing : OnOk r (s'.standing ≡ standing_of s'.state)
   pub tells : OnOk r ((h : List Line) → Told s h → Told s' (l ∷ h))
-  pub stays : OnErr r ((s'.standing ≡ s.standing) × ((s'.counts ≡ s.counts) × (s'.handed ≡ s.handed)))
+  pub stays : OnErr r ((judge_of s'.state ≡ judge_of s.state) × ((s'.standing ≡ s.standing) × ((s'.counts ≡ s.counts) × (s'.handed ≡ s.handed))))

@@ -28,9 +28,8 @@ pub struct Standing {
     pub last: Option<u64>,
 }
 
-// What a summary holds: the judge's state, which a line that is refused may leave between two lines, and how it stood behind the last line that was taken; the
-// counts, and the hand-overs of the live buffers.
-#[derive(Drop)]
+// What a summary holds: the judge's state behind the last line that was taken, and how it stands; the counts, and the hand-overs of the live buffers.
+#[derive(Clone, Drop)]
 pub struct Summary {
     pub state: State,
     pub standing: Standing,

@@ -50,7 +50,7 @@ impl Times {
 }
 
 // The counts: the lines so far, the peaks of live bytes and of mapped bytes, the answers by call and number, the failed driver lines by kind.
-#[derive(Drop)]
+#[derive(Clone, Copy)]
 pub struct Counts {
     pub lines: u64,
     pub live: Peak,

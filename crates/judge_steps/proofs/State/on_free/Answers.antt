@@ -12,16 +12,16 @@ use Rattle.judge_steps.proofs.Tested.{r8-is}
 use Rattle.judge_steps.proofs.Stepping.{refused, passed, rest}
 use Rattle.judge_steps.proofs.State.on_free.Goals as goal
 
-pub returns-then-not-keeps_r8 : goal.returns-then-not-keeps_r8
+pub returns-then-not-keeps_r8-clause-does : goal.returns-then-not-keeps_r8-clause-does
 unfolding answered judge_of
-returns-then-not-keeps_r8 c =
+returns-then-not-keeps_r8-clause-does c =
     let v = c.args in
     let s = v.self.now in
     refused 8 (R8 (judge_of s) v.size v.stream) _ (sym (r8-is s v.size v.stream) ∙ sym c.keeps_r8.ensures ∙ c.if-not-keeps_r8.true)
 
-pub returns : goal.returns
+pub returns-clause-does : goal.returns-clause-does
 unfolding answered judge_of
-returns c =
+returns-clause-does c =
     let v = c.args in
     let s = v.self.now in
     let e = filter-from_retain _ (λ b. not (eqb b.start s.run.asked.first)) _ (λ x b g y k. search rules) _ _ c.retain.ensures.filtered in

@@ -12,16 +12,16 @@ use Rattle.judge_steps.proofs.Tested.{r10-is}
 use Rattle.judge_steps.proofs.Stepping.{refused, passed, rest}
 use Rattle.judge_steps.proofs.State.on_giveback.Goals as goal
 
-pub returns-then-not-keeps_r10 : goal.returns-then-not-keeps_r10
+pub returns-then-not-keeps_r10-clause-does : goal.returns-then-not-keeps_r10-clause-does
 unfolding recorded judge_of
-returns-then-not-keeps_r10 c =
+returns-then-not-keeps_r10-clause-does c =
     let v = c.args in
     let s = v.self.now in
     refused 10 (R10 (judge_of s) v.base v.size) _ (sym (r10-is s v.base v.size) ∙ sym c.keeps_r10.ensures ∙ c.if-not-keeps_r10.true)
 
-pub returns : goal.returns
+pub returns-clause-does : goal.returns-clause-does
 unfolding recorded judge_of
-returns c =
+returns-clause-does c =
     let v = c.args in
     let s = v.self.now in
     let e = filter-from_retain _ (λ r. not (eqb r.base v.base)) _ (λ x b g y k. search rules) _ _ c.retain.ensures.filtered in

@@ -13,16 +13,16 @@ use Rattle.judge_steps.proofs.Stepping.{refused, passed, rest-plain}
 use Prim.Native.Nat.{ℕ}
 use Rattle.judge_steps.proofs.State.on_release.Goals as goal
 
-pub returns-then-not-keeps_r5 : goal.returns-then-not-keeps_r5
+pub returns-then-not-keeps_r5-clause-does : goal.returns-then-not-keeps_r5-clause-does
 unfolding recorded judge_of
-returns-then-not-keeps_r5 c =
+returns-then-not-keeps_r5-clause-does c =
     let v = c.args in
     let s = v.self.now in
     refused 5 (R5 (judge_of s) v.handle) _ (sym (r5-is s v.handle) ∙ sym c.keeps_r5.ensures ∙ c.if-not-keeps_r5.true)
 
-pub returns : goal.returns
+pub returns-clause-does : goal.returns-clause-does
 unfolding recorded judge_of
-returns c =
+returns-clause-does c =
     let v = c.args in
     let s = v.self.now in
     let t : ℕ → Bool = λ h. not (eqb h v.handle) in

@@ -12,16 +12,16 @@ use Rattle.judge_steps.proofs.Tested.{r4-is}
 use Rattle.judge_steps.proofs.Stepping.{refused, passed, rest}
 use Rattle.judge_steps.proofs.State.on_unmap.Goals as goal
 
-pub returns-then-not-keeps_r4 : goal.returns-then-not-keeps_r4
+pub returns-then-not-keeps_r4-clause-does : goal.returns-then-not-keeps_r4-clause-does
 unfolding recorded judge_of
-returns-then-not-keeps_r4 c =
+returns-then-not-keeps_r4-clause-does c =
     let v = c.args in
     let s = v.self.now in
     refused 4 (R4 (judge_of s) v.address v.bytes) _ (sym (r4-is s v.address v.bytes) ∙ sym c.keeps_r4.ensures ∙ c.if-not-keeps_r4.true)
 
-pub returns : goal.returns
+pub returns-clause-does : goal.returns-clause-does
 unfolding recorded judge_of
-returns c =
+returns-clause-does c =
     let v = c.args in
     let s = v.self.now in
     let e = filter-from_retain _ (λ p. not (inside v.address v.bytes p.at)) _ (λ x b g y k. search rules) _ _ c.retain.ensures.filtered in

@@ -20,7 +20,7 @@ returns c =
     let z = c.step.new.self in
     let l = c.args.l in
     let r = c.standing_of-self in
-    let e : on (judge_of z) ≡ judged (said l.kind) (judge_of s.state) l = c.in_ok-step.ensures in
+    let e : on (judge_of z) ≡ judged (said l.kind) (judge_of s.state) l = c.in_ok-step.ensures.does in
     let maps : c.mapped_bytes-mapped.result ≡ capped (z.run.page * length z.mapped.items) =
     c.mapped_bytes-mapped.ensures ∙ ap (λ (x : Standing). capped (x.run.page * x.mapped)) r.ensures
     in
