@@ -16,11 +16,11 @@ fn one<R: Files>(
     word: Result<Word, Failure>,
     named: bool,
 ) {
-    let Some(Named { mut file, name }) = open_named(rt, err, word, b"a file's name") else {
+    let Some(Named { mut file, name }) = open_named(rt, err, &word, b"a file's name") else {
         return;
     };
     if named {
-        pump(&mut file, to, err, name.as_slice(), WordsTo::Errors);
+        pump(&mut file, to, err, name, WordsTo::Errors);
     } else {
         pump(&mut file, to, err, b"", WordsTo::Errors);
     }

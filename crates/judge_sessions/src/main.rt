@@ -9,7 +9,7 @@ use std::io::Write;
 use std::rt::Files;
 
 fn one<R: Files>(rt: &R, to: &mut impl Write, err: &mut impl Write, word: Result<Word, Failure>) {
-    let Some(mut named) = open_named(rt, err, word, b"path") else {
+    let Some(mut named) = open_named(rt, err, &word, b"path") else {
         return;
     };
     pump(&mut named.file, to, err, b"", WordsTo::Output);

@@ -5,8 +5,7 @@
 mod failures;
 mod words;
 
-ghost use Rattle.std.specs.Prelude.{◌≡◌, ◌≤◌, IfSome};
-ghost use Rattle.arrayvec.specs.ArrayVec.{array_vec_len};
+ghost use Rattle.std.specs.Prelude.{◌≡◌, ◌≤◌, length, IfSome};
 
 pub use crate::failures::Failure;
 use crate::failures::say_failure;
@@ -82,32 +81,32 @@ pub fn asked_for(
 
 // A file, and the word that names it.
 #[derive(Drop)]
-pub struct Named<F: Drop, const ROOM: usize> {
+pub struct Named<'a, F: Drop> {
     pub file: F,
-    pub name: ArrayVec<u8, ROOM>,
+    pub name: &'a [u8],
 }
 
 // The file that a word names, where it can be opened; else that is told, of a word that can't be had as of what it is `called`.
-pub fn open_named<R: Files, const ROOM: usize>(
+pub fn open_named<'a, R: Files, const ROOM: usize>(
     rt: &R,
     to: &mut impl Write,
-    word: Result<ArrayVec<u8, ROOM>, Failure>,
+    word: &'a Result<ArrayVec<u8, ROOM>, Failure>,
     called: &[u8],
-) -> Option<Named<R::File, ROOM>>
-    ensures name { IfSome result (λ named. word.entry ≡ Ok named.name) }
-    ensures within { IfSome result (λ named. array_vec_len named.name ≤ ROOM) }
+) -> Option<Named<'a, R::File>>
+    ensures name { IfSome result (λ named. word.now ≡ Ok record { items = named.name.now }) }
+    ensures within { IfSome result (λ named. length named.name.now ≤ ROOM) }
 {
     let name = match word {
-        Ok(name) => name,
+        Ok(name) => name.as_slice(),
         Err(failure) => {
-            say_failure(to, called, &failure);
+            say_failure(to, called, failure);
             return None;
         }
     };
-    match opened(rt, name.as_slice()) {
+    match opened(rt, name) {
         Ok(file) => Some(Named { file, name }),
         Err(failure) => {
-            say_failure(to, name.as_slice(), &failure);
+            say_failure(to, name, &failure);
             None
         }
     }

@@ -21,11 +21,11 @@ fn one<R: Env + Files>(
     prints: Prints,
     before: Before,
 ) {
-    let Some(mut named) = open_named(rt, err, word, b"a file's name") else {
+    let Some(mut named) = open_named(rt, err, &word, b"a file's name") else {
         return;
     };
     if before == Before::Name {
-        say(to, named.name.as_slice());
+        say(to, named.name);
         say(to, b"\n");
     }
     replay_stream::pump(rt, &mut named.file, to, err, prints);

@@ -10,11 +10,11 @@ const HELP: &[u8] =
     b"usage: summary [FILE..]\n\nOne screen on a trace: its answers, the driver lines that failed, the peaks of live and of\nmapped bytes, and what is left at the end. The judge takes each line first: where it takes\none no more, the summary is of the lines before, and the last line says so. Without a file\nit reads standard input; several are read one after the other.\n";
 
 fn one<R: Files>(rt: &R, to: &mut impl Write, err: &mut impl Write, word: Result<Word, Failure>) {
-    let Some(Named { mut file, name }) = open_named(rt, err, word, b"a file's name") else {
+    let Some(Named { mut file, name }) = open_named(rt, err, &word, b"a file's name") else {
         return;
     };
     say(to, b"trace     ");
-    say(to, name.as_slice());
+    say(to, name);
     say(to, b"\n");
     pump(&mut file, to, err);
 }
