@@ -68,13 +68,12 @@ returns-in_err-must_tell c =
     (making-unmapped c.loop.invariant (omega (arith, c.loop-test.true)) c.in_ok-handle.ensures (ap on c.in-Done.is)
     (sym c.is_active.ensures ∙ c.if-is_active.false) c.in_err-must_tell.ensures refl)
 
-pub put_from_end-requires-clause-room : goal.put_from_end-requires-clause-room
-put_from_end-requires-clause-room c =
-    let w = c.loop.invariant in
-    (w.pages, room_for-one w (omega (arith, c.loop-test.true)))
-
-pub put_from_end-requires-clause-ascends : goal.put_from_end-requires-clause-ascends
-put_from_end-requires-clause-ascends c = rises-ascends at 0 (pages_of c.loop.pages) c.loop.invariant.taken.sound.pages_rise
+pub put_from_end-requires : goal.put_from_end-requires
+put_from_end-requires c =
+    let w = c.loop.invariant in (
+      search rules,
+      ((w.pages, room_for-one w (omega (arith, c.loop-test.true))), rises-ascends at 0 (pages_of c.loop.pages) w.taken.sound.pages_rise),
+    )
 
 pub overflow_add-at : goal.overflow_add-at
 overflow_add-at c = omega (arith, page-fits c.loop.invariant (omega (arith, c.loop-test.true)))
