@@ -7,7 +7,7 @@ mod lines;
 mod records;
 mod rules;
 
-use arrayvec::ArrayVec;
+use fixed_rows::Rows;
 use judge_rules::Run;
 use judge_tables::{Live, Page, Reservation};
 pub use lines::said_of;
@@ -15,13 +15,13 @@ use std::alloc::AllocError;
 
 // What the lines so far have said: where the trace stands, the reservations, the handles that are held, the mapped pages, the live buffers and the last event id
 // that was recorded. A table has the oldest row first.
-#[derive(Drop)]
+#[derive(Clone, Copy)]
 pub struct State {
     pub run: Run,
-    pub reservations: ArrayVec<Reservation, { State::MOST_RESERVATIONS }>,
-    pub held: ArrayVec<u64, { State::MOST_HELD }>,
-    pub mapped: ArrayVec<Page, { State::MOST_MAPPED }>,
-    pub live: ArrayVec<Live, { State::MOST_LIVE }>,
+    pub reservations: Rows<Reservation, { State::MOST_RESERVATIONS }>,
+    pub held: Rows<u64, { State::MOST_HELD }>,
+    pub mapped: Rows<Page, { State::MOST_MAPPED }>,
+    pub live: Rows<Live, { State::MOST_LIVE }>,
     pub last: Option<u64>,
     // once opened, there is a page size
     pub ghost paged: { run.opened ≡ true → 0 < run.page },
