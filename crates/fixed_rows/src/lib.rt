@@ -110,6 +110,16 @@ impl<T: Copy, const N: usize> Rows<T, N> {
         Ok(())
     }
 
+    // The rows as they are, and none left in their place.
+    pub fn take(&mut self) -> Self
+        ensures value { result ≡ self.old }
+        ensures after { self.new.items ≡ [] }
+    {
+        let all = *self;
+        self.clear();
+        all
+    }
+
     // Keeps the rows to which `stays` says yes, in their order.
     pub fn retain<F: FnMut(&mut T) -> bool>(&mut self, stays: F)
         requires { F.IsAlwaysCallable stays }
