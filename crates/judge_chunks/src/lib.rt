@@ -9,7 +9,7 @@ use judge_steps::{Fault, State};
 use trace::{Partial, Reading};
 
 // How far a trace is judged: the lines so far, what they have said, the part of a line that was read, and what the last line came to.
-#[derive(Clone, Drop)]
+#[derive(Clone, Copy)]
 pub struct Progress {
     pub lines: u64,
     pub state: State,

@@ -1,27 +1,26 @@
 // The judge's rules and steps in code.
 #![tactic(auto)]
 
-ghost use Rattle.std.specs.Prelude.{◌≡◌, true, ◌<◌, ⊤};
+ghost use Rattle.std.specs.Prelude.{◌≡◌, true, ◌<◌};
 
 mod lines;
 mod records;
 mod rules;
 
-use arrayvec::ArrayVec;
+use fixed_rows::Rows;
 use judge_rules::Run;
 use judge_tables::{Live, Page, Reservation};
 pub use lines::said_of;
-use std::alloc::AllocError;
 
 // What the lines so far have said: where the trace stands, the reservations, the handles that are held, the mapped pages, the live buffers and the last event id
 // that was recorded. A table has the oldest row first.
-#[derive(Drop)]
+#[derive(Clone, Copy)]
 pub struct State {
     pub run: Run,
-    pub reservations: ArrayVec<Reservation, { State::MOST_RESERVATIONS }>,
-    pub held: ArrayVec<u64, { State::MOST_HELD }>,
-    pub mapped: ArrayVec<Page, { State::MOST_MAPPED }>,
-    pub live: ArrayVec<Live, { State::MOST_LIVE }>,
+    pub reservations: Rows<Reservation, { State::MOST_RESERVATIONS }>,
+    pub held: Rows<u64, { State::MOST_HELD }>,
+    pub mapped: Rows<Page, { State::MOST_MAPPED }>,
+    pub live: Rows<Live, { State::MOST_LIVE }>,
     pub last: Option<u64>,
     // once opened, there is a page size
     pub ghost paged: { run.opened ≡ true → 0 < run.page },
@@ -36,26 +35,6 @@ impl State {
     pub const MOST_MAPPED: usize = 4096;
 
     pub const MOST_LIVE: usize = 128;
-}
-
-impl Clone for State {
-    ghost use Rattle.judge_steps.specs.State.{judge_of};
-
-    // The same was said.
-    ghost is_clone = { λ s t. judge_of t ≡ judge_of s };
-
-    ghost is_infallible = { λ _. ⊤ };
-
-    fn clone(&self) -> Result<State, AllocError> {
-        Ok(State {
-            run: self.run,
-            reservations: self.reservations.clone()?,
-            held: self.held.clone()?,
-            mapped: self.mapped.clone()?,
-            live: self.live.clone()?,
-            last: self.last,
-        })
-    }
 }
 
 // Why a line is not taken: the rule that it breaks, or what is too large after it.

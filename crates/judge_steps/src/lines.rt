@@ -8,7 +8,7 @@ ghost use Rattle.judge_steps.specs.State.{judge_of, run_on, starts_run, in_run, 
 ghost use Rattle.judge_steps.specs.Promises.{Answers, Stands, Steps, Stays};
 
 use crate::{Fault, State};
-use arrayvec::ArrayVec;
+use fixed_rows::Rows;
 use judge_rules::{Asked, Call, Run, Said, Verdict};
 use trace::Line;
 use words::Word;
@@ -114,10 +114,10 @@ impl State {
                 waiting: false,
                 over: false,
             },
-            reservations: ArrayVec::new(),
-            held: ArrayVec::new(),
-            mapped: ArrayVec::new(),
-            live: ArrayVec::new(),
+            reservations: Rows::new(),
+            held: Rows::new(),
+            mapped: Rows::new(),
+            live: Rows::new(),
             last: None,
         }
     }

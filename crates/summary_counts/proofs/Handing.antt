@@ -8,7 +8,7 @@ use lib.Dec.{eqb}
 use lib.ListN.{length}
 use Rattle.std.specs.List as library
 use Rattle.std.proofs.lemmas.List.{length-reverse}
-use Rattle.arrayvec.specs.ArrayVec.{ArrayVec, array_vec_len}
+use Rattle.fixed_rows.specs.Rows.{Rows, rows_len}
 use Rattle.lists.specs.Tests.{filter}
 use Rattle.judge_rules.specs.Sizes.{most_live}
 use Rattle.judge_steps.proofs.Stepping.{rest-plain}
@@ -17,11 +17,11 @@ use Rattle.summary_counts.specs.HandOvers.{hand_overs_in, Leaves}
 use Rattle.summary_counts.specs.declared.handed.HandOver.{HandOver}
 
 -- the judge takes no malloc's result where there is no room
-pub no_room : (t : ArrayVec HandOver) (o : HandOver) → array_vec_len t ≡ most_live → Leaves t (o ∷ hand_overs_in t)
+pub no_room : (t : Rows HandOver) (o : HandOver) → rows_len t ≡ most_live → Leaves t (o ∷ hand_overs_in t)
 no_room t o e q = let z : suc (length (hand_overs_in t)) ≤ most_live = q in absurd (omega (arith, length-reverse t.items))
 
-pub handed-more : (t t' : ArrayVec HandOver) (o : HandOver) → t'.items ≡ t.items ++ o ∷ [] → Leaves t' (o ∷ hand_overs_in t)
+pub handed-more : (t t' : Rows HandOver) (o : HandOver) → t'.items ≡ t.items ++ o ∷ [] → Leaves t' (o ∷ hand_overs_in t)
 handed-more t t' o e q = ap reverse e ∙ newest-more t.items o
 
-pub handed-left : (a : ℕ) (t t' : ArrayVec HandOver) → t'.items ≡ library.filter (λ o. not (eqb o.start a)) t.items → Leaves t' (filter (λ o. not (eqb o.start a)) (hand_overs_in t))
+pub handed-left : (a : ℕ) (t t' : Rows HandOver) → t'.items ≡ library.filter (λ o. not (eqb o.start a)) t.items → Leaves t' (filter (λ o. not (eqb o.start a)) (hand_overs_in t))
 handed-left a t t' e q = ap reverse e ∙ rest-plain (λ o. not (eqb o.start a)) t.items

@@ -1,6 +1,6 @@
 -- The hand-over of each live buffer, from the lines alone: as the live buffers of crates/judge_rules, the newest first, each with the number of its line.
 use Rattle.std.specs.Prelude.{◌≡◌, Bool, true, false, not, List, [], ◌∷◌, reverse, ℕ, ◌+◌, ◌≤◌, eqb, length}
-use Rattle.arrayvec.specs.ArrayVec.{ArrayVec}
+use Rattle.fixed_rows.specs.Rows.{Rows}
 use Rattle.lists.specs.Tests.{filter}
 use Rattle.trace.specs.declared.Line.{Line}
 use Rattle.judge_rules.specs.Said.{said}
@@ -41,9 +41,9 @@ hand_overs [] = []
 hand_overs (l ∷ before) = handed_by (said l.kind) (eqb l.third 0) (call before) l (length before + 1) (hand_overs before)
 
 -- those of a table, whose oldest stands first
-abbrev pub hand_overs_in : ArrayVec HandOver → List HandOver
+abbrev pub hand_overs_in : Rows HandOver → List HandOver
 hand_overs_in t = reverse t.items
 
 -- The table holds these hand-overs, where the judge has room for so many live buffers.
-abbrev pub Leaves : ArrayVec HandOver → List HandOver → Type 0
+abbrev pub Leaves : Rows HandOver → List HandOver → Type 0
 Leaves t hs = length hs ≤ most_live → hand_overs_in t ≡ hs

@@ -3,7 +3,7 @@ ghost use Rattle.std.specs.Prelude.{◌≡◌, eqb};
 ghost use Rattle.judge_rules.specs.Said.{said};
 ghost use Rattle.summary_counts.specs.HandOvers.{answered_by, handed_by, hand_overs_in, Leaves};
 
-use arrayvec::ArrayVec;
+use fixed_rows::Rows;
 use judge_rules::{Asked, Call, Said};
 use judge_steps::{State, said_of};
 use trace::Line;
@@ -16,7 +16,7 @@ pub struct HandOver {
     pub line: u64,
 }
 
-pub type HandOvers = ArrayVec<HandOver, { State::MOST_LIVE }>;
+pub type HandOvers = Rows<HandOver, { State::MOST_LIVE }>;
 
 // A result of answer 0.
 fn on_done(handed: &mut HandOvers, asked: Asked, l: Line, line: u64)

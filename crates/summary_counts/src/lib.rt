@@ -29,7 +29,7 @@ pub struct Standing {
 }
 
 // What a summary holds: the judge's state behind the last line that was taken, and how it stands; the counts, and the hand-overs of the live buffers.
-#[derive(Clone, Drop)]
+#[derive(Clone, Copy)]
 pub struct Summary {
     pub state: State,
     pub standing: Standing,

@@ -3,7 +3,7 @@ use mathlib.Core.Path.{ap, sym, ◌∙◌}
 use mathlib.Core.Bool.{not}
 use lib.Dec.{eqb}
 use Rattle.std.proofs.Common.{rules}
-use Rattle.arrayvec.proofs.ArrayVecLemmas.{filter-from_retain}
+use Rattle.fixed_rows.proofs.Retained.{filter-from_retain}
 use Rattle.judge_rules.specs.Rules.{R10}
 use Rattle.judge_rules.specs.Verdict.{on, recorded, with_reservations}
 use Rattle.judge_tables.specs.Rows.{reservation_of, reservations_in}

@@ -4,7 +4,7 @@ use mathlib.Core.Bool.{Bool, not}
 use lib.Dec.{eqb}
 use mathlib.Core.List.{reverse}
 use Rattle.std.proofs.Common.{rules}
-use Rattle.arrayvec.proofs.ArrayVecLemmas.{filter-from_retain}
+use Rattle.fixed_rows.proofs.Retained.{filter-from_retain}
 use Rattle.judge_rules.specs.Rules.{R5}
 use Rattle.judge_rules.specs.Verdict.{on, recorded, with_held}
 use Rattle.judge_steps.specs.State.{judge_of}

@@ -2,7 +2,7 @@
 use mathlib.Core.Path.{ap, sym, ◌∙◌}
 use mathlib.Core.Bool.{not}
 use Rattle.std.proofs.Common.{rules}
-use Rattle.arrayvec.proofs.ArrayVecLemmas.{filter-from_retain}
+use Rattle.fixed_rows.proofs.Retained.{filter-from_retain}
 use Rattle.judge_rules.specs.Ranges.{inside}
 use Rattle.judge_rules.specs.Rules.{R4}
 use Rattle.judge_rules.specs.Verdict.{on, recorded, with_mapped}

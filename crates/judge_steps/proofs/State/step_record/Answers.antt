@@ -5,7 +5,7 @@ use mathlib.Core.List.{List, []}
 use lib.Dec.{eqb}
 use Rattle.judge_rules.specs.Verdict.{on, recorded, ended, with_live}
 use Rattle.judge_tables.specs.Rows.{live_in}
-use Rattle.arrayvec.specs.ArrayVec.{ArrayVec}
+use Rattle.fixed_rows.specs.Rows.{Rows}
 use Rattle.judge_rules.specs.declared.Call.TheVariants.{Close}
 use Rattle.judge_tables.specs.declared.rows.Live.{Live}
 use Rattle.judge_steps.specs.State.{judge_of}
@@ -45,7 +45,7 @@ pub returns-in-Err-clause-stays : goal.returns-in-Err-clause-stays
 unfolding judge_of
 returns-in-Err-clause-stays c =
     let b = live_in c.args.self.now.live.items in
-    ap (λ (v : ArrayVec Live). with_live (judge_of c.on_standing-2.new.self) (live_in v.items)) c.take-live.ensures.value
+    ap (λ (v : Rows Live). with_live (judge_of c.on_standing-2.new.self) (live_in v.items)) c.take-live.ensures.value
     ∙ ap (λ j. with_live j b) c.in-Err.ensures.stays
 
 pub returns-clause-does : goal.returns-clause-does

@@ -4,7 +4,7 @@ use mathlib.Core.Bool.{not}
 use lib.Dec.{eqb}
 use Rattle.std.proofs.Common.{rules}
 use Rattle.std.specs.List as library
-use Rattle.arrayvec.proofs.ArrayVecLemmas.{filter-from_retain}
+use Rattle.fixed_rows.proofs.Retained.{filter-from_retain}
 use Rattle.summary_counts.specs.declared.handed.HandOver.{HandOver}
 use Rattle.summary_counts.proofs.Handing.{handed-left}
 use Rattle.summary_counts.proofs.handed.on_done.Goals as goal
