@@ -2,7 +2,7 @@
 #![tactic(auto)]
 
 use judge_stream::{WordsTo, pump};
-use named_files::{Failure, Named, Wish, Word, Words, asked_for, open_named, say};
+use named_files::{Failure, Named, Wish, Word, Words, asked_for, lent, open_named, say};
 use std::io::Write;
 use std::rt::{Env, Files};
 
@@ -16,7 +16,7 @@ fn one<R: Files>(
     word: Result<Word, Failure>,
     named: bool,
 ) {
-    let Some(Named { mut file, name }) = open_named(rt, err, &word, b"a file's name") else {
+    let Some(Named { mut file, name }) = open_named(rt, err, lent(&word), b"a file's name") else {
         return;
     };
     if named {

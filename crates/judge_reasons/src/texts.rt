@@ -7,7 +7,7 @@ use arrayvec::ArrayString;
 use std::fmt::Write;
 use trace::put_bytes;
 
-// The longest, of a handle that is mapped twice, has 169 bytes.
+// The longest, of a buffer freed with another stream, has 169 bytes.
 const ROOM: usize = 200;
 
 fn put_words(out: &mut [u8], at: usize, words: Words) -> usize

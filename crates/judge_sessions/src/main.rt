@@ -4,12 +4,12 @@
 #![tactic(auto)]
 
 use judge_stream::{WordsTo, pump};
-use named_files::{Failure, Word, Words, open_named};
+use named_files::{Failure, Word, Words, lent, open_named};
 use std::io::Write;
 use std::rt::Files;
 
 fn one<R: Files>(rt: &R, to: &mut impl Write, err: &mut impl Write, word: Result<Word, Failure>) {
-    let Some(mut named) = open_named(rt, err, &word, b"path") else {
+    let Some(mut named) = open_named(rt, err, lent(&word), b"path") else {
         return;
     };
     pump(&mut named.file, to, err, b"", WordsTo::Output);

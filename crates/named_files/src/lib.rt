@@ -5,12 +5,11 @@
 mod failures;
 mod words;
 
-ghost use Rattle.std.specs.Prelude.{◌≡◌, ◌≤◌, length, IfSome};
+ghost use Rattle.std.specs.Prelude.{◌≡◌, IfSome, IsOkAnd};
 
 pub use crate::failures::Failure;
 use crate::failures::say_failure;
-pub use crate::words::{Word, Words, word};
-use arrayvec::ArrayVec;
+pub use crate::words::{Word, Words, lent, read_word, word};
 use std::fs::File;
 use std::io::{IsTerminal, Write};
 use std::rt::{Env, Files};
@@ -87,17 +86,16 @@ pub struct Named<'a, F: Drop> {
 }
 
 // The file that a word names, where it can be opened; else that is told, of a word that can't be had as of what it is `called`.
-pub fn open_named<'a, R: Files, const ROOM: usize>(
+pub fn open_named<'a, R: Files>(
     rt: &R,
     to: &mut impl Write,
-    word: &'a Result<ArrayVec<u8, ROOM>, Failure>,
+    word: Result<&'a [u8], &Failure>,
     called: &[u8],
 ) -> Option<Named<'a, R::File>>
-    ensures name { IfSome result (λ named. word.now ≡ Ok record { items = named.name.now }) }
-    ensures within { IfSome result (λ named. length named.name.now ≤ ROOM) }
+    ensures { IfSome result (λ named. IsOkAnd word.entry (λ name. named.name.now ≡ name.now)) }
 {
     let name = match word {
-        Ok(name) => name.as_slice(),
+        Ok(name) => name,
         Err(failure) => {
             say_failure(to, called, failure);
             return None;

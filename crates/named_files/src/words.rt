@@ -1,5 +1,5 @@
 // The words behind a program's name, one after the other.
-ghost use Rattle.std.specs.Prelude.{◌≡◌, ◌-◌, ◌≤◌, IfSome, IfOk, IfErr};
+ghost use Rattle.std.specs.Prelude.{◌≡◌, ◌-◌, ◌≤◌, length, Ok, IfSome, IfOk, IfErr};
 ghost use Rattle.std.specs.Iterator.{at_most};
 ghost use Rattle.arrayvec.specs.ArrayVec.{array_vec_len};
 ghost use Rattle.named_files.specs.declared.failures.Failure.TheVariants.{TooLong};
@@ -31,14 +31,20 @@ impl<'a, R: Env> Words<'a, R> {
     }
 }
 
-fn filled<const ROOM: usize>(rt: &impl Env, i: usize) -> Result<ArrayVec<u8, ROOM>, FillError> {
-    let mut word = ArrayVec::from([0; ROOM]);
-    let length = rt.arg(i, word.as_mut_slice())?;
-    word.truncate(length);
-    Ok(word)
+// Word `i`, where there is one, read into a room of any length: how many bytes it has.
+pub fn read_word(rt: &impl Env, i: usize, room: &mut [u8]) -> Option<Result<usize, Failure>>
+    ensures within { IfSome result (λ word. IfOk word (λ count. count ≤ length room.new)) }
+    ensures room { length room.new ≡ length room.old }
+    ensures too_long { IfSome result (λ word. IfErr word (λ failure. failure ≡ TooLong)) }
+{
+    match rt.arg(i, room) {
+        Ok(count) => Some(Ok(count)),
+        Err(FillError::TooLong) => Some(Err(Failure::TooLong)),
+        Err(FillError::NotPresent) => None,
+    }
 }
 
-// Word `i`, where there is one; the room is of any length.
+// The same, with a room of its own.
 pub fn word<const ROOM: usize>(
     rt: &impl Env,
     i: usize,
@@ -46,10 +52,25 @@ pub fn word<const ROOM: usize>(
     ensures within { IfSome result (λ word. IfOk word (λ bytes. array_vec_len bytes ≤ ROOM)) }
     ensures too_long { IfSome result (λ word. IfErr word (λ failure. failure ≡ TooLong)) }
 {
-    match filled(rt, i) {
-        Ok(word) => Some(Ok(word)),
-        Err(FillError::TooLong) => Some(Err(Failure::TooLong)),
-        Err(FillError::NotPresent) => None,
+    let mut word = ArrayVec::from([0; ROOM]);
+    match read_word(rt, i, word.as_mut_slice())? {
+        Ok(count) => {
+            word.truncate(count);
+            Some(Ok(word))
+        }
+        Err(failure) => Some(Err(failure)),
+    }
+}
+
+// A word as it is lent to be opened.
+pub fn lent<const ROOM: usize>(
+    word: &Result<ArrayVec<u8, ROOM>, Failure>,
+) -> Result<&[u8], &Failure>
+    ensures { IfOk result (λ bytes. word.now ≡ Ok record { items = bytes.now }) }
+{
+    match word {
+        Ok(bytes) => Ok(bytes.as_slice()),
+        Err(failure) => Err(failure),
     }
 }
 

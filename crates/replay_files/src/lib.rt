@@ -1,7 +1,7 @@
 // What replay prints for each trace that a word behind the program's name names.
 #![tactic(auto)]
 
-use named_files::{Failure, Word, Words, open_named, say};
+use named_files::{Failure, Word, Words, lent, open_named, say};
 use replay_stream::Prints;
 use std::io::Write;
 use std::rt::{Env, Files};
@@ -21,7 +21,7 @@ fn one<R: Env + Files>(
     prints: Prints,
     before: Before,
 ) {
-    let Some(mut named) = open_named(rt, err, &word, b"a file's name") else {
+    let Some(mut named) = open_named(rt, err, lent(&word), b"a file's name") else {
         return;
     };
     if before == Before::Name {
