@@ -50,7 +50,7 @@ module _ {i : ℕ} {b : LiveBuffers} {f : FreeRegions} {c : ℕ} (h : Freeable i
     pub others_are : live_of o ≡ without (λ z. z.start.0) it.start.0 (live_of b)
     others_are = ap live_of e ∙ live_pack _ ∙ same
 
-    others-kept : KeptLive o
+    pub others-kept : KeptLive o
     others-kept =
         let few : length (without (λ z. z.start.0) it.start.0 (live_of b)) ≤ SPANS =
         omega (arith, length-filter (λ z. not (eqb z.start.0 it.start.0)) (live_of b), live-count b h.tables.live, h.tables.live.most) in

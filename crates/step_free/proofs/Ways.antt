@@ -7,6 +7,7 @@ use Rattle.std.specs.Prelude.{Result, Ok, Err}
 use Rattle.lists.specs.Order.{without}
 use Rattle.lists.specs.Places.{remove_at}
 use Rattle.tables.specs.Values.{FreeRegions, LiveBuffers, live_of, pack_live, tables_of, with_live, empty_buffer}
+use Rattle.tables.specs.Steps.{on, ends}
 use Rattle.tables.specs.InsertFree.{insert_free}
 use Rattle.tables.specs.Free.{free_steps}
 use Rattle.tables.specs.declared.FreeRegion.{FreeRegion}
@@ -26,6 +27,20 @@ use Rattle.step_free.proofs.Sounds.{others_are, kept-after}
 abbrev but : LiveBuffer → List LiveBuffer → List LiveBuffer
 but z = without (λ y. y.start.0) z.start.0
 
+-- without the buffer `z`
+abbrev pub taken_out : LiveBuffer → Point → Point
+taken_out z s = point s.made (with_live (without (λ y. y.start.0) z.start.0 s.tables.live) s.tables) s.log
+
+-- the two ways of the steps, by the rule: the range is inserted as free, or its record ends the call
+module _ {xs : List ℕ} {s u : Point} (z : LiveBuffer) where
+  pub freed : (r : FreeRegion) → Ran (insert_free z.start.0 z.size z.stream) xs (taken_out z s) (on r) u → Ran (free_steps z) xs s (on (Freed z.size z.stream)) u
+  unfolding free_steps
+  freed r inserted = next _ (changed _) (next _ inserted gave)
+
+  pub freed-stop : {o : Outcome} → Ran (insert_free z.start.0 z.size z.stream) xs (taken_out z s) (ends o) u → Ran (free_steps z) xs s (ends o) u
+  unfolding free_steps
+  freed-stop inserted = next _ (changed _) (stop _ inserted)
+
 -- what the steps hand back, by what the insert does
 abbrev handed : LiveBuffer → Result FreeRegion Outcome → Result Outcome Outcome
 handed z (Ok r) = Ok (Freed z.size z.stream)
@@ -33,11 +48,9 @@ handed z (Err o) = Err o
 
 -- the rule of the whole, by that of the insert
 whole-ran : {xs : List ℕ} {s u : Point} (z : LiveBuffer) (r : Result FreeRegion Outcome) →
-    Ran (insert_free z.start.0 z.size z.stream) xs (point s.made (with_live (but z s.tables.live) s.tables) s.log) (ending r) u →
-    Ran (free_steps z) xs s (ending (handed z r)) u
-unfolding free_steps
-whole-ran z (Ok r) w = next _ (changed _) (next _ w gave)
-whole-ran z (Err o) w = next _ (changed _) (stop _ w)
+    Ran (insert_free z.start.0 z.size z.stream) xs (taken_out z s) (ending r) u → Ran (free_steps z) xs s (ending (handed z r)) u
+whole-ran z (Ok r) w = freed z r w
+whole-ran z (Err o) w = freed-stop z w
 
 -- the buffer in a cell
 abbrev cell : LiveBuffers → ℕ → LiveBuffer
